@@ -1,0 +1,31 @@
+-- The laws of a bound on every number of a list, `AllWithin`: the empty list, a list with one number more or less, and a table.
+-- The bound is one statement for each place, and the places of a list with one number more are 0 and those after it.
+-- Assumes nothing.
+use mathlib.Core.List.{List, [], _∷_}
+use Prim.Native.Nat.{ℕ, zero, suc, _+_, _≤_, _<_}
+use native.Mathlib.Omega.{arith}
+use lib.IntN.{ℤ, natAbs}
+use Rattle.bspline.specs.Bounds.{AllWithin}
+use Rattle.bspline.specs.Tables.{at, tabulate}
+
+-- the empty list is within every bound
+pub nil-within : (B : ℕ) → AllWithin B []
+nil-within B = record { within = λ k. omega arith }
+
+-- a number within the bound, put before a list within it
+pub cons-within : {B : ℕ} {x : ℤ} {l : List ℤ} → natAbs x ≤ B → AllWithin B l → AllWithin B (x ∷ l)
+cons-within {B} {x} {l} h g = record { within = each }
+  where
+    each : (k : ℕ) → natAbs (at (x ∷ l) k) ≤ B
+    each zero = h
+    each (suc k) = g .within k
+
+-- the list after its first number
+pub rest-within : {B : ℕ} {x : ℤ} {l : List ℤ} → AllWithin B (x ∷ l) → AllWithin B l
+rest-within h = record { within = λ k. h .within (suc k) }
+
+-- a table of a function that is within the bound below a + n
+pub tabulate-within : (B : ℕ) (f : ℕ → ℤ) (a n : ℕ) → ((k : ℕ) → k < a + n → natAbs (f k) ≤ B) → AllWithin B (tabulate f a n)
+unfolding tabulate
+tabulate-within B f a zero h = nil-within B
+tabulate-within B f a (suc n) h = cons-within (h a (omega arith)) (tabulate-within B f (suc a) n (λ k g. h k (omega arith)))

@@ -1,0 +1,18 @@
+-- The theory of the definitions in specs/. The exact solution exists, it is the only one, and it is stable; the numbers of a line stay in range and
+-- near the exact solution; the marked examples hold.
+pub mod Below
+pub mod Comparison
+pub mod Mirror
+pub mod Stability
+pub mod Uniqueness
+pub mod Existence
+pub mod Tables
+pub mod Bounds
+pub mod Pole
+pub mod Steps
+pub mod Lines
+pub mod Ranges
+pub mod Residual
+pub mod Margin
+pub mod Accuracy
+pub mod Worked

@@ -1,0 +1,125 @@
+-- How far from 0 the numbers of a line can be: where |t| ≤ T, also |p| ≤ 3T/2, |b| ≤ 9T/16 and |C| ≤ (27T + 64) / 128.
+-- A step multiplies by Z / 2^31, which is below 27/100, and adds at most 1/2 by rounding: T + 27/100 × 3T/2 + 1/2 ≤ 3T/2, and
+-- 27/100 × (3T/2 + 9T/16) + 1/2 ≤ 9T/16, from T = 100 on. So the bounds hold along the whole line, by induction over the lists, and every product fits
+-- 64 bits. A bound is the whole number at or below the fraction: |p| ≤ 3T/2 is the same as natAbs p ≤ 3 * T / 2. Assumes nothing.
+use mathlib.Core.List.{List, [], _∷_}
+use mathlib.Core.Path.{_≡_, refl}
+use Prim.Native.Nat.{ℕ, _+_, _*_, _/_, _%_, _^_, _≤_, _<_}
+use native.Mathlib.Decide.{decLt}
+use native.Mathlib.Nat.{le-refl}
+use native.Mathlib.Omega.{arith}
+use lib.Dec.{lit≤}
+use lib.IntN.{ℤ, pos, natAbs, _-ℤ_, _*ℤ_}
+use lib.ListN.{length, List·getD-eq-default}
+use Rattle.integers.proofs.Absolute.{abs-sub, abs-mul, abs-mul≤}
+use Rattle.integers.proofs.Linear.{reify, read, show}
+use Rattle.bspline.specs.Bounds.{AllWithin}
+use Rattle.bspline.specs.Mirror.{mirror}
+use Rattle.bspline.specs.Recursions.{margin, Z, window, causal, forward, anticausal, first, backward, filtered, coefficient, coefficients}
+use Rattle.bspline.specs.Tables.{at, Shape, area, place, pixel, raster}
+use Rattle.bspline.specs.Transforms.{rowCoefficients, firstPass, secondPass, pictureCoefficients}
+use Rattle.bspline.proofs.Bounds.{nil-within, cons-within, rest-within, tabulate-within}
+use Rattle.bspline.proofs.Lines.{coefficients-length, coefficients-at}
+use Rattle.bspline.proofs.Mirror.{mirror-below}
+use Rattle.bspline.proofs.Steps.{causal-near, anticausal-near, coefficient-near}
+
+first-within : {B : ℕ} (l : List ℤ) → AllWithin B l → natAbs (first l) ≤ B
+first-within [] h = h .within 0
+first-within (b ∷ l) h = h .within 0
+
+-- ---- one line, over any bound T of its numbers
+module _ (T : ℕ) (large : 100 ≤ T) where
+  -- one step of the causal recursion keeps |p| ≤ 3T/2
+  pub causal-range : (t p : ℤ) → natAbs t ≤ T → natAbs p ≤ 3 * T / 2 → natAbs (causal t p) ≤ 3 * T / 2
+  causal-range t p h g = show (simp reify tt) (omega (arith, read h (simp reify tt), read g (simp reify tt), read (causal-near t p) (simp reify tt)))
+
+  -- one step of the anticausal recursion keeps |b| ≤ 9T/16
+  pub anticausal-range : (p b : ℤ) → natAbs p ≤ 3 * T / 2 → natAbs b ≤ 9 * T / 16 → natAbs (anticausal p b) ≤ 9 * T / 16
+  anticausal-range p b h g = show (simp reify tt) (omega (arith, read h (simp reify tt), read g (simp reify tt), read (anticausal-near p b) (simp reify tt)))
+
+  -- a coefficient of such a b has |C| ≤ (27T + 64) / 128
+  pub coefficient-range : (b : ℤ) → natAbs b ≤ 9 * T / 16 → natAbs (coefficient b) ≤ (27 * T + 64) / 128
+  coefficient-range b h = show (simp reify tt) (omega (arith, read h (simp reify tt), read (coefficient-near b) (simp reify tt)))
+
+  -- every p of a list of t
+  pub forward-within : (p : ℤ) (l : List ℤ) → natAbs p ≤ 3 * T / 2 → AllWithin T l → AllWithin (3 * T / 2) (forward p l)
+  unfolding forward
+  forward-within p [] g h = nil-within (3 * T / 2)
+  forward-within p (t ∷ l) g h =
+      let next : natAbs (causal t p) ≤ 3 * T / 2 = causal-range t p (h .within 0) g in
+      cons-within next (forward-within (causal t p) l next (rest-within h))
+
+  -- every b of a list of p
+  pub backward-within : (l : List ℤ) → AllWithin (3 * T / 2) l → AllWithin (9 * T / 16) (backward l)
+  unfolding backward
+  backward-within [] h = nil-within (9 * T / 16)
+  backward-within (p ∷ l) h =
+      let rest : AllWithin (9 * T / 16) (backward l) = backward-within l (rest-within h) in
+      cons-within (anticausal-range p (first (backward l)) (h .within 0) (first-within (backward l) rest)) rest
+
+  module _ (n : ℕ) (t : ℕ → ℤ) (some : 0 < n) (range : (k : ℕ) → k < n → natAbs (t k) ≤ T) where
+    -- every t of the window
+    pub window-within : AllWithin T (window n t)
+    window-within = tabulate-within T _ 0 _ (λ i h. range (mirror n (pos i -ℤ pos margin)) (mirror-below n (pos i -ℤ pos margin) some))
+
+    -- every b of the window
+    pub filtered-within : AllWithin (9 * T / 16) (filtered n t)
+    filtered-within = backward-within (forward (pos 0) (window n t)) (forward-within (pos 0) (window n t) (omega arith) window-within)
+
+    -- every coefficient
+    pub coefficients-within : AllWithin ((27 * T + 64) / 128) (coefficients n t)
+    coefficients-within = record { within = λ k. each k (decLt k n) }
+      where
+        each : (k : ℕ) → Dec (k < n) → natAbs (at (coefficients n t) k) ≤ (27 * T + 64) / 128
+        each k (yes h) = rw (coefficients-at n t k h) (coefficient-range (at (filtered n t) (k + margin)) (filtered-within .within (k + margin)))
+        each k (no h) =
+            let past : length (coefficients n t) ≤ k = omega (arith, coefficients-length n t) in
+            rw (List·getD-eq-default (coefficients n t) (pos 0) past) (omega arith)
+
+-- ---- the numbers of the two passes
+-- where t is at most T from 0, p, b and C are at most P, B and C from 0
+pub record Numbers (T P B C : ℕ) : Type 0 where
+  pub of-p : 3 * T / 2 ≡ P
+  pub of-b : 9 * T / 16 ≡ B
+  pub of-C : (27 * T + 64) / 128 ≡ C
+
+-- a row: t is 65536 times a sample, which is at most 2^15 from 0
+pub row-numbers : Numbers (2 ^ 31) (3 * 2 ^ 30) (9 * 2 ^ 27) (27 * 2 ^ 24)
+row-numbers = record { of-p = refl; of-b = refl; of-C = refl }
+
+-- a column: t is 16 times a coefficient of a row
+pub column-numbers : Numbers (27 * 2 ^ 28) (81 * 2 ^ 27) (243 * 2 ^ 24) (729 * 2 ^ 21)
+column-numbers = record { of-p = refl; of-b = refl; of-C = refl }
+
+-- the greatest number of all: Z × (p - b) of a column, and the 2^30 that its rounding adds, fit 64 bits
+pub product-fits : (p b : ℤ) → natAbs p ≤ 81 * 2 ^ 27 → natAbs b ≤ 243 * 2 ^ 24 → natAbs (Z *ℤ (p -ℤ b)) + 2 ^ 30 < 2 ^ 63
+product-fits p b h g = omega (arith, abs-mul Z (p -ℤ b), abs-sub p b)
+
+-- ---- the two transforms
+-- a number within B, loaded as m times itself
+pub loaded-range : (m B : ℕ) (x : ℤ) → natAbs x ≤ B → natAbs (pos m *ℤ x) ≤ m * B
+loaded-range m B x h = abs-mul≤ (pos m) x (le-refl m) h
+
+-- every coefficient of a row of samples
+pub row-within : (s : List ℤ) → 0 < length s → AllWithin (2 ^ 15) s → AllWithin (27 * 2 ^ 24) (rowCoefficients s)
+unfolding rowCoefficients
+row-within s some h = coefficients-within (2 ^ 31) (lit≤ tt) (length s) _ some (λ k l. loaded-range 65536 (2 ^ 15) (at s k) (h .within k))
+
+-- every coefficient of a picture after its first pass, the rows
+pub first-pass-within : (d : Shape) (p : List ℤ) → 0 < d .width → AllWithin (2 ^ 15) p → (x y : ℕ) → natAbs (firstPass d p x y) ≤ 27 * 2 ^ 24
+unfolding firstPass
+first-pass-within d p wide h x y =
+    coefficients-within (2 ^ 31) (lit≤ tt) (d .width) _ wide (λ k l. loaded-range 65536 (2 ^ 15) (pixel d p k y) (h .within (place d k y))) .within x
+
+-- and after its second, the columns
+pub second-pass-within : (d : Shape) (p : List ℤ) → 0 < d .width → 0 < d .height → AllWithin (2 ^ 15) p → (x y : ℕ) → natAbs (secondPass d p x y) ≤ 729 * 2 ^ 21
+unfolding secondPass
+second-pass-within d p wide high h x y =
+    coefficients-within (27 * 2 ^ 28) (lit≤ tt) (d .height) _ high
+    (λ k l. loaded-range 16 (27 * 2 ^ 24) (firstPass d p x k) (first-pass-within d p wide h x k)) .within y
+
+-- every coefficient of a picture of pixels
+pub picture-within : (d : Shape) (p : List ℤ) → 0 < d .width → 0 < d .height → AllWithin (2 ^ 15) p → AllWithin (729 * 2 ^ 21) (pictureCoefficients d p)
+unfolding pictureCoefficients raster
+picture-within d p wide high h =
+    tabulate-within (729 * 2 ^ 21) _ 0 (area d) (λ i l. second-pass-within d p wide high h (i % d .width) (i / d .width))

@@ -1,0 +1,61 @@
+-- The marked examples M1 to M13 of "Checked examples" hold, by computing. And the exact solutions among them, M7, M8, M9 and M13, are the
+-- only ones: whatever solves the equations of the listed data equals the listed numbers, by uniqueness. Assumes nothing.
+use mathlib.Core.List.{List, [], _∷_, List·Memᴰ, List·Memᴰ·head, List·Memᴰ·tail}
+use mathlib.Core.Path.{refl}
+use Prim.Native.Nat.{ℕ}
+use lib.IntN.{pos, negℤ}
+use lib.ListN.{length}
+use Rattle.integers.specs.Rounding.{round}
+use Rattle.bspline.specs.Examples.{Example, rounds, reads, solves, solves-picture, weighs, transforms, Holds, OnlySolution, All, end, _also_, examples}
+use Rattle.bspline.specs.Exact.{Fractions, tridiagonal, Equation, Solves, Grid, SolvesPicture, row, column, whole, wholeGrid}
+use Rattle.bspline.specs.Mirror.{mirror}
+use Rattle.bspline.specs.Recursions.{R, causal, forward, anticausal, backward, coefficient, delivered, coefficients}
+use Rattle.bspline.specs.Tables.{tabulate}
+use Rattle.bspline.specs.Transforms.{rowCoefficients}
+use Rattle.bspline.specs.Values.{weights}
+use Rattle.bspline.proofs.Below.{Each, each}
+use Rattle.bspline.proofs.Uniqueness.{unique, picture-unique}
+
+-- a row's equations, one after the other
+equations-solve : (n : ℕ) (s c : Fractions) → Each n (Equation n s c) → Solves n s c
+equations-solve n s c e = record { equation = each n (Equation n s c) e }
+
+-- a picture's, from the picture between
+between-solves : (w h : ℕ) (p c between : Grid) → Each h (λ y. Solves w (row y p) (row y between)) → Each w (λ x. Solves h (column x between) (column x c)) →
+    SolvesPicture w h p c
+between-solves w h p c between e f = record { between = between; rows = each h _ e; columns = each w _ f }
+
+-- the examples hold
+pub examples-hold : All examples
+unfolding R round mirror tridiagonal weights rowCoefficients coefficients delivered coefficient tabulate forward causal backward anticausal
+examples-hold =
+    refl also refl also refl also refl
+    also refl also refl also refl also refl
+    also equations-solve 2 _ _ (refl, (refl, tt))
+    also equations-solve 3 _ _ (refl, (refl, (refl, tt)))
+    also equations-solve 3 _ _ (refl, (refl, (refl, tt)))
+    also refl also refl
+    also refl
+    also between-solves 2 2 _ _ (wholeGrid (record { width = 2; height = 2 }) (pos 2 ∷ negℤ (pos 1) ∷ pos 0 ∷ pos 0 ∷ []))
+    (equations-solve 2 _ _ (refl, (refl, tt)), (equations-solve 2 _ _ (refl, (refl, tt)), tt))
+    (equations-solve 2 _ _ (refl, (refl, tt)), (equations-solve 2 _ _ (refl, (refl, tt)), tt))
+    also end
+
+-- ---- no other solution
+-- an example that holds lists the only solution
+holds-only : (e : Example) → Holds e → OnlySolution e
+holds-only (solves s c) h = λ x f. unique (length s) (whole s) (whole s) x c (record { same = λ k l. refl }) f h
+holds-only (solves-picture d p c) h = λ x f. picture-unique (d .width) (d .height) (wholeGrid d p) (wholeGrid d p) x c (record { same = λ x y l u. refl }) f h
+holds-only (rounds a r) h = tt
+holds-only (reads n k i) h = tt
+holds-only (weighs m j ws) h = tt
+holds-only (transforms s C) h = tt
+
+-- an example of a list that holds, holds
+all-hold : {es : List Example} (e : Example) → All es → List·Memᴰ e es → Holds e
+all-hold e (h also a) (List·Memᴰ·head p) = rw p h
+all-hold e (h also a) (List·Memᴰ·tail m) = all-hold e a m
+
+-- the listed solutions of M7, M8, M9 and M13 are the only ones
+pub listed-solutions-unique : (e : Example) → List·Memᴰ e examples → OnlySolution e
+listed-solutions-unique e m = holds-only e (all-hold e examples-hold m)

@@ -1,0 +1,62 @@
+-- Values of the spline between samples: "Values between samples". Assumes nothing.
+use mathlib.Core.List.{List, [], _∷_}
+use Prim.Native.Nat.{ℕ, _+_, _-_, _*_, _/_, _%_, _^_}
+use lib.IntN.{ℤ, pos, _+ℤ_, _-ℤ_, _*ℤ_}
+use lib.ListN.{length}
+use Rattle.integers.specs.Rounding.{round}
+use Rattle.bspline.specs.Mirror.{mirror}
+use Rattle.bspline.specs.Tables.{Shape, tabulate, at, pixel}
+
+-- A position: whole part k and numerator j over a factor m, meaning k + j/m
+pub record Position : Type 0 where
+  pub k : ℕ
+  pub j : ℕ
+
+abbrev pub cube : ℤ → ℤ
+cube x = x *ℤ x *ℤ x
+
+-- the weights on C[k-1], C[k], C[k+1], C[k+2], over 6m³
+unfoldable pub weights : ℕ → ℕ → List ℤ
+weights m j =
+    cube (pos m -ℤ pos j)
+    ∷ (pos (3 * j ^ 3) -ℤ pos (6 * j ^ 2 * m) +ℤ pos (4 * m ^ 3))
+    ∷ (pos (3 * j ^ 2 * m + 3 * j * m ^ 2 + m ^ 3) -ℤ pos (3 * j ^ 3))
+    ∷ pos (j ^ 3)
+    ∷ []
+
+-- C[k-1], C[k], C[k+1], C[k+2] of n numbers continued past both ends
+abbrev pub support : ℕ → (ℕ → ℤ) → ℕ → List ℤ
+support n c k = tabulate (λ i. c (mirror n (pos (k + i) -ℤ pos 1))) 0 4
+
+-- the sum of the products of two lists, place by place
+abbrev pub dot : List ℤ → List ℤ → ℤ
+dot [] l = pos 0
+dot (a ∷ k) [] = pos 0
+dot (a ∷ k) (b ∷ l) = a *ℤ b +ℤ dot k l
+
+-- N, the weighted sum of a row of n coefficients at a position
+unfoldable pub rowSum : ℕ → ℕ → (ℕ → ℤ) → Position → ℤ
+rowSum m n c p = dot (weights m (p .j)) (support n c (p .k))
+
+-- in a picture the weights multiply: the sum along rows, then along columns
+unfoldable pub pictureSum : ℕ → Shape → (ℕ → ℕ → ℤ) → Position → Position → ℤ
+pictureSum m d c px py = rowSum m (d .height) (λ y. rowSum m (d .width) (λ x. c x y) px) py
+
+-- the row value, N / (96m³) rounded to nearest
+unfoldable pub valueInRow : ℕ → List ℤ → Position → ℤ
+valueInRow m c p = round (rowSum m (length c) (at c) p) (96 * m ^ 3)
+
+-- the picture value, the sum over 576m⁶ rounded likewise
+unfoldable pub valueInPicture : ℕ → Shape → List ℤ → Position → Position → ℤ
+valueInPicture m d c px py = round (pictureSum m d (pixel d c) px py) (576 * m ^ 6)
+
+-- the positions that row zoom lists: the i-th is i/m
+abbrev pub zoomPosition : ℕ → ℕ → Position
+zoomPosition m i = record { k = i / m; j = i % m }
+
+-- how many there are, from 0 to n - 1
+abbrev pub zoomCount : ℕ → ℕ → ℕ
+zoomCount m n = (n - 1) * m + 1
+
+unfoldable pub zoomValues : ℕ → List ℤ → List ℤ
+zoomValues m c = tabulate (λ i. valueInRow m c (zoomPosition m i)) 0 (zoomCount m (length c))

@@ -1,0 +1,78 @@
+-- What the machine asks and gives of signed numbers: a number from its bits, and `/` and `%`, which round toward zero.
+-- A proof of `let q = a / d; if a % d < 0 { q - 1 } else { q }` with `pos 0 <ℤ d` takes `div-asks` for what the two operations ask,
+-- `quot-fits` and `rem-fits` to strip the bits off their results, and `floor-quotient-less` and `floor-quotient` for the two results,
+-- which fit by `floor-fits` of proofs/Division.antt. Assumes nothing.
+use mathlib.Core.Path.{_≡_, sym, _∙_, ap}
+use Prim.Native.Nat.{ℕ, suc, _<_}
+use native.Mathlib.Nat.{div-add-mod, mod-lt, div-le-self}
+use native.Mathlib.Omega.{arith}
+use lib.IntN.{ℤ, pos, negsuc, natAbs, _+ℤ_, _-ℤ_, _*ℤ_}
+use lib.Signed.{_≤ℤ_, _<ℤ_, quotZ, remZ, mag-rem}
+use mir.Facts.{toZ-ofZ}
+use mir.Syntax.{Width}
+use mir.Val.{SFits, toZ, ofZ}
+use mir.ValLaws.{sfits-le}
+use Rattle.integers.specs.Division.{floor}
+use Rattle.integers.proofs.Parts.{of-lt}
+use Rattle.integers.proofs.Linear.{reify, show}
+use Rattle.integers.proofs.Division.{floor-unique}
+
+-- two numbers with the same bits, as after `if x == 0`: `same-bits w64 x (pos 0) (c .fits .x) (sfits-lit tt) (c .if1 .taken)`
+pub same-bits : (w : Width) (x y : ℤ) → SFits w x → SFits w y → ofZ w x ≡ ofZ w y → x ≡ y
+same-bits w x y f g e = sym (toZ-ofZ f) ∙ ap (toZ w) e ∙ toZ-ofZ g
+
+-- ---- the quotient and the remainder toward zero
+
+pub quot-rem : (a d : ℤ) → quotZ a d *ℤ d +ℤ remZ a d ≡ a
+quot-rem (pos a) (pos b) = show (simp reify tt) (omega (arith, div-add-mod a b))
+quot-rem (pos a) (negsuc b) = show (simp reify tt) (omega (arith, div-add-mod a (suc b)))
+quot-rem (negsuc a) (pos b) = show (simp reify tt) (omega (arith, div-add-mod (suc a) b))
+quot-rem (negsuc a) (negsuc b) = show (simp reify tt) (omega (arith, div-add-mod (suc a) (suc b)))
+
+pub rem-below : (a d : ℤ) → 0 < natAbs d → natAbs (remZ a d) < natAbs d
+rem-below (pos a) d h = mod-lt a h
+rem-below (negsuc a) d h = show (simp reify tt) (omega (arith, mod-lt (suc a) h))
+
+pub quot-fits : {w : Width} (a d : ℤ) → pos 0 <ℤ d → SFits w a → SFits w (quotZ a d)
+quot-fits {w} (pos a) (pos d) h = show (simp reify tt) (omega (arith, div-le-self a d))
+quot-fits {w} (negsuc a) (pos d) h = show (simp reify tt) (omega (arith, div-le-self (suc a) d))
+quot-fits a (negsuc d) h = λ f. absurd (h .lt)
+
+pub rem-fits : {w : Width} (a d : ℤ) → SFits w a → SFits w (remZ a d)
+rem-fits a d f = sfits-le (mag-rem a d) f
+
+-- what the machine asks of `a / d` and of `a % d`, with a positive d
+pub div-asks : (w : Width) (a d : ℤ) → pos 0 <ℤ d → SFits w a → SFits w d
+    → (0 < ofZ w d) × SFits w (quotZ (toZ w (ofZ w a)) (toZ w (ofZ w d)))
+div-asks w a d h f g = (bits d h, simp (toZ-ofZ f, toZ-ofZ g) (quot-fits a d h f))
+  where
+    bits : (d : ℤ) → pos 0 <ℤ d → 0 < ofZ w d
+    bits (pos d) h = omega (arith, of-lt h)
+    bits (negsuc d) h = absurd (h .lt)
+
+-- ---- the floor: the quotient, less one where the remainder is negative
+
+-- a = q·n + r with 0 ≤ r < n
+exact : (a q r : ℤ) (n : ℕ) → q *ℤ pos n +ℤ r ≡ a → pos 0 ≤ℤ r → natAbs r < n → q ≡ floor a n
+exact a q r n e k b = let l = between e k b in floor-unique a q n (l .0) (l .1)
+  where
+    between : q *ℤ pos n +ℤ r ≡ a → pos 0 ≤ℤ r → natAbs r < n → ((pos n *ℤ q) ≤ℤ a) × (a <ℤ (pos n *ℤ q +ℤ pos n))
+    between = show (simp reify tt) (omega arith)
+
+-- a = q·n + r with -n < r < 0: a = (q - 1)·n + (r + n)
+less : (a q r : ℤ) (n : ℕ) → q *ℤ pos n +ℤ r ≡ a → r <ℤ pos 0 → natAbs r < n → q -ℤ pos 1 ≡ floor a n
+less a q r n e k b = let l = shift e k b in exact a (q -ℤ pos 1) (r +ℤ pos n) n (l .0) (l .1 .0) (l .1 .1)
+  where
+    shift : q *ℤ pos n +ℤ r ≡ a → r <ℤ pos 0 → natAbs r < n
+        → ((q -ℤ pos 1) *ℤ pos n +ℤ (r +ℤ pos n) ≡ a) × ((pos 0 ≤ℤ (r +ℤ pos n)) × (natAbs (r +ℤ pos n) < n))
+    shift = show (simp reify tt) (omega arith)
+
+pub floor-quotient : (a d : ℤ) → pos 0 <ℤ d → pos 0 ≤ℤ remZ a d → quotZ a d ≡ floor a (natAbs d)
+floor-quotient a (pos n) h k =
+    exact a (quotZ a (pos n)) (remZ a (pos n)) n (quot-rem a (pos n)) k (rem-below a (pos n) (omega (arith, of-lt h)))
+floor-quotient a (negsuc n) h k = absurd (h .lt)
+
+pub floor-quotient-less : (a d : ℤ) → pos 0 <ℤ d → remZ a d <ℤ pos 0 → quotZ a d -ℤ pos 1 ≡ floor a (natAbs d)
+floor-quotient-less a (pos n) h k =
+    less a (quotZ a (pos n)) (remZ a (pos n)) n (quot-rem a (pos n)) k (rem-below a (pos n) (omega (arith, of-lt h)))
+floor-quotient-less a (negsuc n) h k = absurd (h .lt)

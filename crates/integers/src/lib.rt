@@ -1,0 +1,1 @@
+// Laws of the integers, for proofs: no code. docs/INTEGERS.md says how they are used.

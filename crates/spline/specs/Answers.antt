@@ -1,0 +1,36 @@
+-- The enums and the struct of `spline`, read as the answers and descriptions of the specification: "Who can be refused". Assumes nothing.
+use Prim.Native.Nat.{ℕ}
+use Rattle.bspline.specs.Outcomes.{Answer, count, value, refusal}
+use Rattle.bspline.specs.Tables as tables
+use Rattle.spline.specs.declared.Refusal.{Refusal}
+use Rattle.spline.specs.declared.Refusal.the-variants.{EmptyRow, LongRow, BadSide, WrongCount, ShortWork, ShortCoefficients, BadFactor, OffData, ShortValues}
+use Rattle.spline.specs.declared.Shape.{Shape}
+use Rattle.spline.specs.declared.Valued.{Valued}
+use Rattle.spline.specs.declared.Valued.the-variants.{Value, Refused as NoValue}
+use Rattle.spline.specs.declared.Written.{Written}
+use Rattle.spline.specs.declared.Written.the-variants.{Count, Refused as NotWritten}
+
+-- the number of each refusal
+abbrev pub number : Refusal → ℕ
+number EmptyRow = 1
+number LongRow = 2
+number BadSide = 3
+number WrongCount = 4
+number ShortWork = 5
+number ShortCoefficients = 6
+number BadFactor = 7
+number OffData = 8
+number ShortValues = 9
+
+-- what an enum answers
+abbrev pub written : Written → Answer
+written (Count n) = count n
+written (NotWritten r) = refusal (number r)
+
+abbrev pub valued : Valued → Answer
+valued (Value v) = value v
+valued (NoValue r) = refusal (number r)
+
+-- the picture that a struct describes
+abbrev pub shape : Shape → tables.Shape
+shape s = record { width = s .width; height = s .height }

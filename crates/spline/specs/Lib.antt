@@ -1,0 +1,2 @@
+-- What the contracts of `spline` cite beside the definitions of `bspline`.
+pub mod Answers

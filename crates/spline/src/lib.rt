@@ -1,0 +1,37 @@
+// Cubic spline coefficients and values of rows of samples and of pictures. An operation takes lent slices, answers an enum by value, and
+// either gives its full result or refuses and changes nothing.
+//
+// What an operation computes is defined in the crate `bspline` (specs/); specs/Answers.antt reads the enums below as its answers.
+mod mirror;
+mod rounding;
+
+// Why a call is refused. The number of each is in specs/Answers.antt.
+pub enum Refusal {
+    EmptyRow,
+    LongRow,
+    BadSide,
+    WrongCount,
+    ShortWork,
+    ShortCoefficients,
+    BadFactor,
+    OffData,
+    ShortValues,
+}
+
+// What a transform and row zoom answer: how many numbers were written, or the refusal.
+pub enum Written {
+    Count(usize),
+    Refused(Refusal),
+}
+
+// What row value and picture value answer: the value in units of 1/256 of a count, or the refusal.
+pub enum Valued {
+    Value(i32),
+    Refused(Refusal),
+}
+
+// A picture's description: its sides.
+pub struct Shape {
+    pub width: usize,
+    pub height: usize,
+}
