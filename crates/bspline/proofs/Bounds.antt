@@ -3,8 +3,10 @@
 -- Assumes nothing.
 use mathlib.Core.List.{List, [], _∷_}
 use Prim.Native.Nat.{ℕ, zero, suc, _+_, _≤_, _<_}
+use native.Mathlib.Decide.{decLt}
 use native.Mathlib.Omega.{arith}
-use lib.IntN.{ℤ, natAbs}
+use lib.IntN.{ℤ, pos, natAbs}
+use lib.ListN.{length, List·getD-eq-default}
 use Rattle.bspline.specs.Bounds.{AllWithin}
 use Rattle.bspline.specs.Tables.{at, tabulate}
 
@@ -29,3 +31,13 @@ pub tabulate-within : (B : ℕ) (f : ℕ → ℤ) (a n : ℕ) → ((k : ℕ) →
 unfolding tabulate
 tabulate-within B f a zero h = nil-within B
 tabulate-within B f a (suc n) h = cons-within (h a (omega arith)) (tabulate-within B f (suc a) n (λ k g. h k (omega arith)))
+
+-- a list each of whose places is within the bound
+pub places-within : (B : ℕ) (l : List ℤ) → ((k : ℕ) → k < length l → natAbs (at l k) ≤ B) → AllWithin B l
+places-within B l h = record { within = λ k. each k (decLt k (length l)) }
+  where
+    each : (k : ℕ) → Dec (k < length l) → natAbs (at l k) ≤ B
+    each k (yes g) = h k g
+    each k (no g) =
+        let past : length l ≤ k = omega arith in
+        rw (List·getD-eq-default l (pos 0) past) (omega arith)

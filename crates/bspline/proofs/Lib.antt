@@ -15,4 +15,5 @@ pub mod Ranges
 pub mod Residual
 pub mod Margin
 pub mod Accuracy
+pub mod Outcomes
 pub mod Worked

@@ -5,12 +5,11 @@
 use mathlib.Core.List.{List, [], _∷_}
 use mathlib.Core.Path.{_≡_, refl}
 use Prim.Native.Nat.{ℕ, _+_, _*_, _/_, _%_, _^_, _≤_, _<_}
-use native.Mathlib.Decide.{decLt}
 use native.Mathlib.Nat.{le-refl}
 use native.Mathlib.Omega.{arith}
 use lib.Dec.{lit≤}
 use lib.IntN.{ℤ, pos, natAbs, _-ℤ_, _*ℤ_}
-use lib.ListN.{length, List·getD-eq-default}
+use lib.ListN.{length}
 use Rattle.integers.proofs.Absolute.{abs-sub, abs-mul, abs-mul≤}
 use Rattle.integers.proofs.Linear.{reify, read, show}
 use Rattle.bspline.specs.Bounds.{AllWithin}
@@ -18,7 +17,7 @@ use Rattle.bspline.specs.Mirror.{mirror}
 use Rattle.bspline.specs.Recursions.{margin, Z, window, causal, forward, anticausal, first, backward, filtered, coefficient, coefficients}
 use Rattle.bspline.specs.Tables.{at, Shape, area, place, pixel, raster}
 use Rattle.bspline.specs.Transforms.{rowCoefficients, firstPass, secondPass, pictureCoefficients}
-use Rattle.bspline.proofs.Bounds.{nil-within, cons-within, rest-within, tabulate-within}
+use Rattle.bspline.proofs.Bounds.{nil-within, cons-within, rest-within, tabulate-within, places-within}
 use Rattle.bspline.proofs.Lines.{coefficients-length, coefficients-at}
 use Rattle.bspline.proofs.Mirror.{mirror-below}
 use Rattle.bspline.proofs.Steps.{causal-near, anticausal-near, coefficient-near}
@@ -68,13 +67,12 @@ module _ (T : ℕ) (large : 100 ≤ T) where
 
     -- every coefficient
     pub coefficients-within : AllWithin ((27 * T + 64) / 128) (coefficients n t)
-    coefficients-within = record { within = λ k. each k (decLt k n) }
+    coefficients-within =
+        places-within ((27 * T + 64) / 128) (coefficients n t)
+        (λ k h. each k (omega (arith, coefficients-length n t)))
       where
-        each : (k : ℕ) → Dec (k < n) → natAbs (at (coefficients n t) k) ≤ (27 * T + 64) / 128
-        each k (yes h) = rw (coefficients-at n t k h) (coefficient-range (at (filtered n t) (k + margin)) (filtered-within .within (k + margin)))
-        each k (no h) =
-            let past : length (coefficients n t) ≤ k = omega (arith, coefficients-length n t) in
-            rw (List·getD-eq-default (coefficients n t) (pos 0) past) (omega arith)
+        each : (k : ℕ) → k < n → natAbs (at (coefficients n t) k) ≤ (27 * T + 64) / 128
+        each k h = rw (coefficients-at n t k h) (coefficient-range (at (filtered n t) (k + margin)) (filtered-within .within (k + margin)))
 
 -- ---- the numbers of the two passes
 -- where t is at most T from 0, p, b and C are at most P, B and C from 0
@@ -91,8 +89,8 @@ row-numbers = record { of-p = refl; of-b = refl; of-C = refl }
 pub column-numbers : Numbers (27 * 2 ^ 28) (81 * 2 ^ 27) (243 * 2 ^ 24) (729 * 2 ^ 21)
 column-numbers = record { of-p = refl; of-b = refl; of-C = refl }
 
--- the greatest number of all: Z × (p - b) of a column, and the 2^30 that its rounding adds, fit 64 bits
-pub product-fits : (p b : ℤ) → natAbs p ≤ 81 * 2 ^ 27 → natAbs b ≤ 243 * 2 ^ 24 → natAbs (Z *ℤ (p -ℤ b)) + 2 ^ 30 < 2 ^ 63
+-- the greatest number of all: Z × (p - b) of a column fits 64 bits, with room for twice the 2^31 that it is divided by
+pub product-fits : (p b : ℤ) → natAbs p ≤ 81 * 2 ^ 27 → natAbs b ≤ 243 * 2 ^ 24 → natAbs (Z *ℤ (p -ℤ b)) + 2 ^ 32 ≤ 2 ^ 63
 product-fits p b h g = omega (arith, abs-mul Z (p -ℤ b), abs-sub p b)
 
 -- ---- the two transforms

@@ -1,7 +1,8 @@
 -- What the machine asks and gives of signed numbers: a number from its bits, and `/` and `%`, which round toward zero.
--- A proof of `let q = a / d; if a % d < 0 { q - 1 } else { q }` with `pos 0 <ℤ d` takes `div-asks` for what the two operations ask,
--- `quot-fits` and `rem-fits` to strip the bits off their results, and `floor-quotient-less` and `floor-quotient` for the two results,
--- which fit by `floor-fits` of proofs/Division.antt. Assumes nothing.
+-- `div-asks` is what the two operations ask, `quot-fits` and `rem-fits` strip the bits off their results. The floor is the quotient, less one
+-- where the remainder is negative (`floor-quotient`, `floor-quotient-less`); or it is the exact quotient of what is left without the
+-- remainder from 0 up (`modulo-remainder`, `modulo-remainder-less`, `floor-exact`). Assumes nothing.
+use mathlib.Core.Logic.{_⊎_, inl, inr}
 use mathlib.Core.Path.{_≡_, sym, _∙_, ap}
 use Prim.Native.Nat.{ℕ, suc, _<_}
 use native.Mathlib.Nat.{div-add-mod, mod-lt, div-le-self}
@@ -12,10 +13,11 @@ use mir.Facts.{toZ-ofZ}
 use mir.Syntax.{Width}
 use mir.Val.{SFits, toZ, ofZ}
 use mir.ValLaws.{sfits-le}
-use Rattle.integers.specs.Division.{floor}
+use Rattle.integers.specs.Division.{floor, modulo}
 use Rattle.integers.proofs.Parts.{of-lt}
+use Rattle.integers.proofs.Laws.{≤ℤ-or->ℤ}
 use Rattle.integers.proofs.Linear.{reify, show}
-use Rattle.integers.proofs.Division.{floor-unique}
+use Rattle.integers.proofs.Division.{floor-unique, floor-multiple, modulo-equation}
 
 -- two numbers with the same bits, as after `if x == 0`: `same-bits w64 x (pos 0) (c .fits .x) (sfits-lit tt) (c .if1 .taken)`
 pub same-bits : (w : Width) (x y : ℤ) → SFits w x → SFits w y → ofZ w x ≡ ofZ w y → x ≡ y
@@ -76,3 +78,55 @@ pub floor-quotient-less : (a d : ℤ) → pos 0 <ℤ d → remZ a d <ℤ pos 0 �
 floor-quotient-less a (pos n) h k =
     less a (quotZ a (pos n)) (remZ a (pos n)) n (quot-rem a (pos n)) k (rem-below a (pos n) (omega (arith, of-lt h)))
 floor-quotient-less a (negsuc n) h k = absurd (h .lt)
+
+-- ---- from the remainder toward zero to the remainder from 0 up: d more where it is negative
+pub modulo-remainder : (a d : ℤ) → pos 0 <ℤ d → pos 0 ≤ℤ remZ a d → remZ a d ≡ pos (modulo a (natAbs d))
+modulo-remainder a (negsuc d) h k = absurd (h .lt)
+modulo-remainder a (pos n) h k =
+    rest (quotZ a (pos n)) (remZ a (pos n)) (floor a n) (pos (modulo a n)) (quot-rem a (pos n)) (floor-quotient a (pos n) h k) (modulo-equation a n (omega (arith, of-lt h)))
+  where
+    rest : (q r f m : ℤ) → q *ℤ pos n +ℤ r ≡ a → q ≡ f → a ≡ pos n *ℤ f +ℤ m → r ≡ m
+    rest q r f m e g k = same (rw g at e) k
+      where
+        same : f *ℤ pos n +ℤ r ≡ a → a ≡ pos n *ℤ f +ℤ m → r ≡ m
+        same = show (simp reify tt) (omega arith)
+
+pub modulo-remainder-less : (a d : ℤ) → pos 0 <ℤ d → remZ a d <ℤ pos 0 → remZ a d +ℤ d ≡ pos (modulo a (natAbs d))
+modulo-remainder-less a (negsuc d) h k = absurd (h .lt)
+modulo-remainder-less a (pos n) h k =
+    rest (quotZ a (pos n)) (remZ a (pos n)) (floor a n) (pos (modulo a n)) (quot-rem a (pos n)) (floor-quotient-less a (pos n) h k) (modulo-equation a n (omega (arith, of-lt h)))
+  where
+    rest : (q r f m : ℤ) → q *ℤ pos n +ℤ r ≡ a → q -ℤ pos 1 ≡ f → a ≡ pos n *ℤ f +ℤ m → r +ℤ pos n ≡ m
+    rest q r f m e g k = same e (rw (← g) at k)
+      where
+        same : q *ℤ pos n +ℤ r ≡ a → a ≡ pos n *ℤ (q -ℤ pos 1) +ℤ m → r +ℤ pos n ≡ m
+        same = show (simp reify tt) (omega arith)
+
+-- without its remainder, a number is divided exactly
+pub floor-exact : (a d : ℤ) → pos 0 <ℤ d → quotZ (a -ℤ pos (modulo a (natAbs d))) d ≡ floor a (natAbs d)
+floor-exact a (negsuc d) h = absurd (h .lt)
+floor-exact a (pos n) h = rw whole (multiple (floor a n))
+  where
+    whole : a -ℤ pos (modulo a n) ≡ pos n *ℤ floor a n
+    whole = taken (floor a n) (pos (modulo a n)) (modulo-equation a n (omega (arith, of-lt h)))
+      where
+        taken : (f m : ℤ) → a ≡ pos n *ℤ f +ℤ m → a -ℤ m ≡ pos n *ℤ f
+        taken f m = show (simp reify tt) (omega arith)
+
+    multiple : (q : ℤ) → quotZ (pos n *ℤ q) (pos n) ≡ q
+    multiple q = by-sign (≤ℤ-or->ℤ (pos 0) (remZ (pos n *ℤ q) (pos n)))
+      where
+        n-above : 0 < n
+        n-above = omega (arith, of-lt h)
+
+        too-far : (z r : ℤ) → z *ℤ pos n +ℤ r ≡ pos n *ℤ q → z -ℤ pos 1 ≡ q → natAbs r < n → ⊥
+        too-far z r e g l = far (rw (← g) at e) l
+          where
+            far : z *ℤ pos n +ℤ r ≡ pos n *ℤ (z -ℤ pos 1) → natAbs r < n → ⊥
+            far = show (simp reify tt) (omega arith)
+
+        by-sign : (pos 0 ≤ℤ remZ (pos n *ℤ q) (pos n)) ⊎ (remZ (pos n *ℤ q) (pos n) <ℤ pos 0) → quotZ (pos n *ℤ q) (pos n) ≡ q
+        by-sign (inl k) = floor-quotient (pos n *ℤ q) (pos n) h k ∙ floor-multiple q n n-above
+        by-sign (inr k) =
+            absurd (too-far (quotZ (pos n *ℤ q) (pos n)) (remZ (pos n *ℤ q) (pos n)) (quot-rem (pos n *ℤ q) (pos n))
+            (floor-quotient-less (pos n *ℤ q) (pos n) h k ∙ floor-multiple q n n-above) (rem-below (pos n *ℤ q) (pos n) n-above))

@@ -31,6 +31,12 @@ abbrev pub valued : Valued → Answer
 valued (Value v) = value v
 valued (NoValue r) = refusal (number r)
 
+-- what is promised of an accepted call
+abbrev pub Promised : Answer → Type 0 → Type 0
+Promised (count n) P = P
+Promised (value v) P = P
+Promised (refusal k) P = Unit
+
 -- the picture that a struct describes
 abbrev pub shape : Shape → tables.Shape
 shape s = record { width = s .width; height = s .height }

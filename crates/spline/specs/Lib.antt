@@ -1,2 +1,3 @@
 -- What the contracts of `spline` cite beside the definitions of `bspline`.
 pub mod Answers
+pub mod Lines

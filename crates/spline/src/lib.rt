@@ -2,8 +2,11 @@
 // either gives its full result or refuses and changes nothing.
 //
 // What an operation computes is defined in the crate `bspline` (specs/); specs/Answers.antt reads the enums below as its answers.
+mod buffers;
+mod filter;
 mod mirror;
 mod rounding;
+pub mod row;
 
 // Why a call is refused. The number of each is in specs/Answers.antt.
 pub enum Refusal {

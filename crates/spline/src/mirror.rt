@@ -8,6 +8,9 @@ ghost use Rattle.bspline.specs.Recursions.{margin};
 // How far past each end of a line the recursions run.
 pub(crate) const MARGIN: usize = 24;
 
+// How many words of work the two margins take beside the line's own.
+pub(crate) const MARGINS: usize = 2 * MARGIN;
+
 // The place of a line of n numbers that place i of its window reads, which is the index i - MARGIN. Inside the line it is that index; the
 // margins take the index modulo 2(n - 1), with a multiple of the period added so that it is not below 0, and fold it back.
 pub(crate) fn mirrored(n: usize, i: usize) -> usize

@@ -1,68 +1,62 @@
--- `spline::rounding::floor_div` meets its contract: the quotient toward zero, less one where the remainder is negative, is the floor.
+-- `spline::rounding::floor_div` meets its contract: without its remainder a is d times the floor, which fits, and is divided exactly.
 -- Assumes nothing.
-use lib.IntN.{pos, natAbs, _-ℤ_}
-use lib.Signed.{_≤ℤ_, _<ℤ_, quotZ, remZ}
+use mathlib.Core.Path.{_≡_}
+use Prim.Native.Nat.{_+_, _≤_, _<_, _^_}
+use native.Mathlib.Omega.{arith}
+use borrow.Author.Needs.{needs, sfits-of}
+use lib.IntN.{ℤ, pos, negsuc, natAbs, _-ℤ_}
+use lib.Signed.{_<ℤ_}
 use mir.Facts.{toZ-ofZ}
 use mir.Syntax.{w64}
 use mir.Val.{SFits}
-use native.Mathlib.Omega.{arith}
-use Rattle.integers.proofs.Division.{floor-fits}
+use Rattle.integers.specs.Division.{modulo}
+use Rattle.integers.proofs.Absolute.{abs-sub, fits-abs}
+use Rattle.integers.proofs.Division.{modulo-below, floor-fits}
 use Rattle.integers.proofs.Linear.{reify, read, show}
-use Rattle.integers.proofs.Machine.{div-asks, quot-fits, rem-fits, floor-quotient, floor-quotient-less}
+use Rattle.integers.proofs.Machine.{div-asks, floor-exact}
 use Rattle.spline.proofs.rounding.floor_div.Statement.{statement}
 use Rattle.spline.proofs.rounding.floor_div.Tie as tie
 
-div-q : tie.Need-div-q
-div-q c = div-asks w64 (c .args .a) (c .args .d) (c .pre) (c .fits .a) (c .fits .d)
+-- a without its remainder
+abbrev left : ℤ → ℤ → ℤ
+left a d = a -ℤ pos (modulo a (natAbs d))
 
-rem-if1 : tie.Need-rem-if1
-rem-if1 c = div-asks w64 (c .args .a) (c .args .d) (c .pre) (c .fits .a) (c .fits .d)
+left-fits : (a d : ℤ) → pos 0 <ℤ d → natAbs a + natAbs d ≤ 2 ^ 63 → SFits w64 (left a d)
+left-fits a (negsuc n) h l = absurd (h .lt)
+left-fits a (pos n) h l =
+    let k : 0 < n = omega (arith, read h (simp reify tt)) in
+    fits-abs w64 (left a (pos n)) (omega (arith, abs-sub a (pos (modulo a n)), modulo-below a n k))
 
-negative : (c : tie.Then1) → remZ (c .before .args .a) (c .before .args .d) <ℤ pos 0
-negative c =
-    let s = c .before in
-    let f = s .fits .a in
-    let g = s .fits .d in
-    let r = rem-fits (s .args .a) (s .args .d) f in
-    show (simp reify tt) (omega (arith, read (simp toZ-ofZ at (c .if1 .taken)) (simp reify tt)))
+modulo-requires : tie.Need-modulo-requires
+modulo-requires c κs = search needs
 
-not-negative : (c : tie.Else1) → pos 0 ≤ℤ remZ (c .before .args .a) (c .before .args .d)
-not-negative c =
-    let s = c .before in
-    let f = s .fits .a in
-    let g = s .fits .d in
-    let r = rem-fits (s .args .a) (s .args .d) f in
-    show (simp reify tt) (omega (arith, read (simp toZ-ofZ at (c .if1 .left)) (simp reify tt)))
+module _ (c : tie.After-modulo) where
+  abbrev start : tie.Start
+  start = c .before
 
-less-fits : (c : tie.Then1) → SFits w64 (quotZ (c .before .args .a) (c .before .args .d) -ℤ pos 1)
-less-fits c =
-    let s = c .before in
-    rw (floor-quotient-less (s .args .a) (s .args .d) (s .pre) (negative c)) (floor-fits (s .args .a) (natAbs (s .args .d)) (s .fits .a))
+  m-fits : SFits w64 (c .modulo .result)
+  m-fits = sfits-of (c .modulo .ok)
+
+  m-is : c .modulo .result ≡ pos (modulo (start .args .a) (natAbs (start .args .d)))
+  m-is = rw (toZ-ofZ (start .fits .a), toZ-ofZ (start .fits .d)) at (c .modulo .ensures)
+
+  fits : SFits w64 (left (start .args .a) (start .args .d))
+  fits = left-fits (start .args .a) (start .args .d) (start .pre .0) (start .pre .1)
 
 sub-result : tie.Need-sub-result
-sub-result c =
+sub-result c = rw (toZ-ofZ (c .before .fits .a), toZ-ofZ (m-fits c), m-is c) (fits c)
+
+div-result : tie.Need-div-result
+div-result c =
     let s = c .before in
-    let f = s .fits .a in
-    let g = s .fits .d in
-    let k = quot-fits (s .args .a) (s .args .d) (s .pre) f in
-    simp toZ-ofZ (less-fits c)
+    rw (toZ-ofZ (s .fits .a), toZ-ofZ (m-fits c), m-is c) (div-asks w64 (left (s .args .a) (s .args .d)) (s .args .d) (s .pre .0) (fits c) (s .fits .d))
 
 returns : tie.Need-returns
 returns c =
     let s = c .before in
-    let f = s .fits .a in
-    let g = s .fits .d in
-    let m = less-fits c in
-    let k = quot-fits (s .args .a) (s .args .d) (s .pre) f in
-    simp toZ-ofZ (floor-quotient-less (s .args .a) (s .args .d) (s .pre) (negative c))
-
-returns-2 : tie.Need-returns-2
-returns-2 c =
-    let s = c .before in
-    let f = s .fits .a in
-    let g = s .fits .d in
-    let k = quot-fits (s .args .a) (s .args .d) (s .pre) f in
-    simp toZ-ofZ (floor-quotient (s .args .a) (s .args .d) (s .pre) (not-negative c))
+    let e = floor-exact (s .args .a) (s .args .d) (s .pre .0) in
+    rw (toZ-ofZ (s .fits .a), toZ-ofZ (m-fits c), m-is c, toZ-ofZ (fits c), toZ-ofZ (s .fits .d), e)
+    (toZ-ofZ (floor-fits (s .args .a) (natAbs (s .args .d)) (s .fits .a)))
 
 pub floor-div-spec : {M : Type 1} → statement M
-floor-div-spec = tie.close (tie.spec div-q rem-if1 sub-result returns returns-2)
+floor-div-spec = tie.close (tie.spec modulo-requires sub-result div-result returns)

@@ -1,0 +1,18 @@
+-- Answers as signed numbers, as the exported functions return them. Assumes nothing.
+use Prim.Native.Nat.{ℕ, _<_, _^_}
+use lib.IntN.{ℤ, pos, negℤ}
+use Rattle.bspline.specs.Outcomes.{Answer, count, value, refusal}
+use Rattle.spline.specs.Answers.{number}
+use Rattle.spline.specs.declared.Refusal.{Refusal}
+
+-- a count and a value as themselves, a refusal's number negated
+abbrev pub code : Answer → ℤ
+code (count n) = pos n
+code (value v) = v
+code (refusal k) = negℤ (pos k)
+
+-- a count that has a code of 64 bits
+abbrev pub Countable : Answer → Type 0
+Countable (count n) = n < 2 ^ 63
+Countable (value v) = Unit
+Countable (refusal k) = Unit

@@ -1,0 +1,5 @@
+-- Laws that belong to no one function.
+pub mod Fill
+pub mod Scatter
+pub mod Passes
+pub mod Rows

@@ -1,0 +1,53 @@
+-- Lines of the coefficient buffer: n numbers from `from` on, `step` apart. A row has step 1, a column the picture's width.
+-- The contracts of the line filter cite these. Assumes nothing.
+use mathlib.Core.List.{List, [], _∷_, map}
+use mathlib.Core.Path.{_≡_}
+use Prim.Native.Nat.{ℕ, _+_, _*_, _^_, _≤_, _<_}
+use lib.IntN.{ℤ, pos, natAbs, _*ℤ_}
+use lib.ListN.{length, drop, set, replicate}
+use Rattle.bspline.specs.Bounds.{AllWithin}
+use Rattle.bspline.specs.Recursions.{margin, first, backward}
+use Rattle.bspline.specs.Tables.{at}
+use Rattle.bspline.specs.Transforms.{rowCoefficients}
+
+-- a sample or pixel in the coefficients' unit, 1/4096 of a count: a line of samples is one of coefficients before it is filtered
+abbrev pub raised : ℤ → ℤ
+raised s = pos 4096 *ℤ s
+
+-- a buffer that holds samples in that unit. Samples are 16-bit numbers, so they are at most 2^15 from 0
+pub record Raised (s c : List ℤ) : Type 0 where
+  pub numbers : c ≡ map raised s
+  pub small : AllWithin (2 ^ 15) s
+
+-- t[k] of the line: 16 times its coefficient at place k
+abbrev pub loadedLine : ℕ → ℕ → List ℤ → ℕ → ℤ
+loadedLine from step c k = pos 16 *ℤ at c (from + step * k)
+
+-- a buffer with the numbers of a list written to the places of a line
+unfoldable pub scatter : ℕ → ℕ → List ℤ → List ℤ → List ℤ
+scatter from step [] c = c
+scatter from step (v ∷ vs) c = set (scatter (from + step) step vs c) from v
+
+-- a line that lies in a buffer, and whose numbers are no greater than a row's coefficients: 16 times them fill the range of a column
+pub record Line (from step n : ℕ) (c : List ℤ) : Type 0 where
+  pub some : 0 < n
+  pub short : n ≤ 4096
+  pub inside : (k : ℕ) → k < n → from + step * k < length c
+  pub small : (k : ℕ) → k < n → natAbs (at c (from + step * k)) ≤ 27 * 2 ^ 24
+
+-- what the causal recursion leaves of a line of n: the p of its whole window, each in its range
+pub record CausalWindow (n : ℕ) (work : List ℤ) : Type 0 where
+  pub long : length work ≡ n + 2 * margin
+  pub small : AllWithin (81 * 2 ^ 27) work
+
+-- b is that of place i of such a window, in its range: from it the anticausal recursion goes on to the places below
+pub record AnticausalAt (work : List ℤ) (b : ℤ) (i : ℕ) : Type 0 where
+  pub within : i ≤ length work
+  pub reached : b ≡ first (backward (drop i work))
+  pub small : natAbs b ≤ 243 * 2 ^ 24
+
+-- what the filter of a whole row leaves: its coefficients, and every word of work 0
+pub record RowFiltered (s c work : List ℤ) : Type 0 where
+  pub coefficients : c ≡ rowCoefficients s
+  pub small : AllWithin (2 ^ 15) s
+  pub cleared : work ≡ replicate (length s + 2 * margin) (pos 0)
