@@ -1,10 +1,12 @@
 // The operations with the C calling convention, for tests and benchmarks in other languages. No part of the library: nothing in the
 // repository but tests/ and bench/ uses it.
 ghost use mathlib.Core.Path.{_≡_};
-ghost use Rattle.bspline.specs.Outcomes.{refusal, rowTransform};
+ghost use Rattle.bspline.specs.Outcomes.{refusal, rowTransform, pictureTransform};
 ghost use Rattle.spline.specs.Answers.{number, written};
+ghost use Rattle.spline.specs.Pictures.{sides};
 ghost use Rattle.exports.specs.Codes.{code, Countable};
 use spline::Refusal;
+use spline::Shape;
 use spline::Written;
 
 // A refusal's number, negated.
@@ -44,4 +46,18 @@ pub extern "C" fn spline_row_transform(
     ensures { λ r. ⌜ r ≡ code (rowTransform (now (samples .entry)) (now (coefficients .entry)) (now (work .entry)) .answer) ⌝ }
 {
     written_code(spline::row::transform(samples, coefficients, work))
+}
+
+#[no_mangle]
+pub extern "C" fn spline_picture_transform(
+    pixels: &[i16],
+    width: usize,
+    height: usize,
+    coefficients: &mut [i32],
+    work: &mut [i64],
+) -> i64
+    ensures { λ r. ⌜ r ≡ code (pictureTransform (sides width height) (now (pixels .entry)) (now (coefficients .entry)) (now (work .entry)) .answer) ⌝ }
+{
+    let shape = Shape { width, height };
+    written_code(spline::picture::transform(pixels, shape, coefficients, work))
 }

@@ -3,3 +3,5 @@ pub mod Fill
 pub mod Scatter
 pub mod Passes
 pub mod Rows
+pub mod LineLoop
+pub mod Pictures

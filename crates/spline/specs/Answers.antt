@@ -38,5 +38,5 @@ Promised (value v) P = P
 Promised (refusal k) P = Unit
 
 -- the picture that a struct describes
-abbrev pub shape : Shape → tables.Shape
-shape s = record { width = s .width; height = s .height }
+abbrev pub described : Shape → tables.Shape
+described s = record { width = s .width; height = s .height }

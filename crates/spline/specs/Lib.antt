@@ -1,3 +1,4 @@
 -- What the contracts of `spline` cite beside the definitions of `bspline`.
 pub mod Answers
 pub mod Lines
+pub mod Pictures

@@ -6,7 +6,7 @@ use Prim.Native.Nat.{ℕ, _+_, _*_, _^_, _≤_, _<_}
 use lib.IntN.{ℤ, pos, natAbs, _*ℤ_}
 use lib.ListN.{length, drop, set, replicate}
 use Rattle.bspline.specs.Bounds.{AllWithin}
-use Rattle.bspline.specs.Recursions.{margin, first, backward}
+use Rattle.bspline.specs.Recursions.{margin, first, backward, coefficients}
 use Rattle.bspline.specs.Tables.{at}
 use Rattle.bspline.specs.Transforms.{rowCoefficients}
 
@@ -45,6 +45,20 @@ pub record AnticausalAt (work : List ℤ) (b : ℤ) (i : ℕ) : Type 0 where
   pub within : i ≤ length work
   pub reached : b ≡ first (backward (drop i work))
   pub small : natAbs b ≤ 243 * 2 ^ 24
+
+-- `count` lines of n numbers, which begin `between` apart, each as `Line` has it; no two of them share a place
+pub record Lines (count between step n : ℕ) (c : List ℤ) : Type 0 where
+  pub some : 0 < n
+  pub short : n ≤ 4096
+  pub moves : 0 < step
+  pub inside : (i k : ℕ) → i < count → k < n → i * between + step * k < length c
+  pub small : (i k : ℕ) → i < count → k < n → natAbs (at c (i * between + step * k)) ≤ 27 * 2 ^ 24
+  pub apart : (i j k l : ℕ) → i < count → j < count → k < n → l < n → i * between + step * k ≡ j * between + step * l → i ≡ j
+
+-- each of the lines of c₀ is replaced by its coefficients
+pub record LinesFiltered (count between step n : ℕ) (c₀ c : List ℤ) : Type 0 where
+  pub long : length c ≡ length c₀
+  pub filtered : (i k : ℕ) → i < count → k < n → at c (i * between + step * k) ≡ at (coefficients n (loadedLine (i * between) step c₀)) k
 
 -- what the filter of a whole row leaves: its coefficients, and every word of work 0
 pub record RowFiltered (s c work : List ℤ) : Type 0 where

@@ -4,7 +4,9 @@
 // What an operation computes is defined in the crate `bspline` (specs/); specs/Answers.antt reads the enums below as its answers.
 mod buffers;
 mod filter;
+mod lines;
 mod mirror;
+pub mod picture;
 mod rounding;
 pub mod row;
 

@@ -1,9 +1,7 @@
 -- `exports::spline_row_transform` meets its contract, by that of the row transform. Assumes nothing.
 use mathlib.Core.Path.{_≡_, sym, ap, _∙_, subst}
-use Prim.Native.Nat.{_<_, _^_}
 use native.Mathlib.Omega.{arith}
 use borrow.Author.Needs.{needs, sfits-of}
-use lib.ListN.{length}
 use mir.Facts.{toZ-ofZ}
 use mir.Syntax.{w64}
 use mir.Val.{SFits}
@@ -12,17 +10,13 @@ use Rattle.bspline.proofs.Outcomes.{row-answer}
 use Rattle.exports.specs.Codes.{code, Countable}
 use Rattle.exports.proofs.spline_row_transform.Statement.{statement}
 use Rattle.exports.proofs.spline_row_transform.Tie as tie
-use Rattle.exports.proofs.spline_row_transform.Reads as reads
-use Rattle.exports.proofs.spline_row_transform.Lts as lts
 
 transform-requires : tie.Need-transform-requires
 transform-requires c κs = search needs
 
--- a count is the row's length
+-- a count is at most 4,096
 countable : (c : tie.Start) → Countable (rowTransform (c .args .samples .now) (c .args .coefficients .now) (c .args .work .now) .answer)
-countable c =
-    let h : length (c .args .samples .now) < 2 ^ 63 = omega arith in
-    row-answer Countable (c .args .samples .now) (c .args .coefficients .now) (c .args .work .now) (λ k. tt) h
+countable c = row-answer Countable (c .args .samples .now) (c .args .coefficients .now) (c .args .work .now) (λ k. tt) (λ h. omega arith)
 
 written-code-requires : tie.Need-written-code-requires
 written-code-requires c κs = subst (λ (o : Transformed). Countable (o .answer)) (sym (c .before .before .transform .ensures .0)) (countable (c .before .before .before .before .before))

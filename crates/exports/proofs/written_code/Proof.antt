@@ -10,8 +10,6 @@ use Rattle.spline.specs.Answers.{written}
 use Rattle.exports.specs.Codes.{code, Countable}
 use Rattle.exports.proofs.written_code.Statement.{statement}
 use Rattle.exports.proofs.written_code.Tie as tie
-use Rattle.exports.proofs.written_code.Reads as reads
-use Rattle.exports.proofs.written_code.Lts as lts
 
 enum-known-w : tie.Need-enum-known-w
 enum-known-w c = search needs

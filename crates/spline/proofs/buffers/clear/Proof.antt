@@ -7,8 +7,6 @@ use lib.ListN.{length, replicate, length-replicate, getD-replicate}
 use Rattle.spline.proofs.Fill.{Filled, filled-none, filled-more, filled-all}
 use Rattle.spline.proofs.buffers.clear.Statement.{statement}
 use Rattle.spline.proofs.buffers.clear.Tie as tie
-use Rattle.spline.proofs.buffers.clear.Reads as reads
-use Rattle.spline.proofs.buffers.clear.Lts as lts
 
 abbrev Inv-loop : tie.InvT-loop
 Inv-loop work₀ word₀ work word = Filled (replicate (length work₀) (pos 0)) work word

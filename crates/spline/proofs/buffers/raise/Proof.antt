@@ -18,8 +18,6 @@ use Rattle.spline.specs.Lines.{raised}
 use Rattle.spline.proofs.Fill.{Filled, filled-none, filled-more, filled-all}
 use Rattle.spline.proofs.buffers.raise.Statement.{statement}
 use Rattle.spline.proofs.buffers.raise.Tie as tie
-use Rattle.spline.proofs.buffers.raise.Reads as reads
-use Rattle.spline.proofs.buffers.raise.Lts as lts
 
 abbrev Inv-loop : tie.InvT-loop
 Inv-loop samples c₀ i₀ c i = Filled (map raised samples) c i × ((k : ℕ) → k < i → natAbs (at samples k) ≤ 2 ^ 15)

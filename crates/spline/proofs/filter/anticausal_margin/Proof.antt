@@ -14,8 +14,6 @@ use Rattle.spline.specs.Lines.{AnticausalAt}
 use Rattle.spline.proofs.Passes.{anticausal-none, anticausal-more}
 use Rattle.spline.proofs.filter.anticausal_margin.Statement.{statement}
 use Rattle.spline.proofs.filter.anticausal_margin.Tie as tie
-use Rattle.spline.proofs.filter.anticausal_margin.Reads as reads
-use Rattle.spline.proofs.filter.anticausal_margin.Lts as lts
 
 abbrev Inv-loop : tie.InvT-loop
 Inv-loop work n end b₀ i₀ b i = AnticausalAt work (toZ w64 b) i × (end ≤ i)

@@ -16,8 +16,6 @@ use Rattle.spline.specs.Lines.{AnticausalAt}
 use Rattle.spline.proofs.Passes.{anticausal-more, delivered-from, Stored, stored-none, stored-more, stored-all, stored-length}
 use Rattle.spline.proofs.filter.anticausal_pass.Statement.{statement}
 use Rattle.spline.proofs.filter.anticausal_pass.Tie as tie
-use Rattle.spline.proofs.filter.anticausal_pass.Reads as reads
-use Rattle.spline.proofs.filter.anticausal_pass.Lts as lts
 
 abbrev Inv-loop : tie.InvT-loop
 Inv-loop work last c₀ from step n b₀ i₀ c b i = AnticausalAt work (toZ w64 b) (i + margin) × Stored from step (delivered n (backward work)) c₀ c i × (i ≤ n)

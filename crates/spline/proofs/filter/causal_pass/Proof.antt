@@ -18,8 +18,6 @@ use Rattle.spline.specs.Lines.{loadedLine}
 use Rattle.spline.proofs.Passes.{Causal, causal-none, causal-more, causal-all}
 use Rattle.spline.proofs.filter.causal_pass.Statement.{statement}
 use Rattle.spline.proofs.filter.causal_pass.Tie as tie
-use Rattle.spline.proofs.filter.causal_pass.Reads as reads
-use Rattle.spline.proofs.filter.causal_pass.Lts as lts
 
 abbrev Inv-loop : tie.InvT-loop
 Inv-loop c from step n work₀ p₀ i₀ work p i = Causal (λ i. loadedLine from step c (mirror n (pos i -ℤ pos margin))) (n + 2 * margin) work (toZ w64 p) i

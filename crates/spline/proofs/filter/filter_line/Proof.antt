@@ -15,8 +15,6 @@ use Rattle.bspline.proofs.Ranges.{forward-within, window-within, loaded-range}
 use Rattle.spline.specs.Lines.{CausalWindow, loadedLine, scatter}
 use Rattle.spline.proofs.filter.filter_line.Statement.{statement}
 use Rattle.spline.proofs.filter.filter_line.Tie as tie
-use Rattle.spline.proofs.filter.filter_line.Reads as reads
-use Rattle.spline.proofs.filter.filter_line.Lts as lts
 
 causal-pass-requires : tie.Need-causal-pass-requires
 causal-pass-requires c κs = search needs

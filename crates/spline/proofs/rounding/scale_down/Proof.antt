@@ -1,14 +1,16 @@
 -- `spline::rounding::scale_down` meets its contract: it is the rounding by 2^31, which is R. Assumes nothing.
-use borrow.Author.Needs.{needs, sfits-of}
+use native.Mathlib.Omega.{arith}
+use borrow.Author.Needs.{sfits-of}
 use mir.Facts.{toZ-ofZ}
 use mir.Syntax.{w64}
 use mir.Val.{SFits}
 use Rattle.bspline.specs.Recursions.{R}
+use Rattle.integers.proofs.Parts.{lt-of}
 use Rattle.spline.proofs.rounding.scale_down.Statement.{statement}
 use Rattle.spline.proofs.rounding.scale_down.Tie as tie
 
 round-div-requires : tie.Need-round-div-requires
-round-div-requires c κs = search needs
+round-div-requires c κs = rw (toZ-ofZ (c .fits .a)) (lt-of (omega arith), omega (arith, c .pre))
 
 returns : tie.Need-returns
 unfolding R

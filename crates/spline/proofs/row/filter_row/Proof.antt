@@ -11,8 +11,6 @@ use Rattle.spline.proofs.Rows.{row-line, row-coefficients, row-length}
 use Rattle.spline.proofs.Scatter.{scatter-whole}
 use Rattle.spline.proofs.row.filter_row.Statement.{statement}
 use Rattle.spline.proofs.row.filter_row.Tie as tie
-use Rattle.spline.proofs.row.filter_row.Reads as reads
-use Rattle.spline.proofs.row.filter_row.Lts as lts
 
 raise-requires : tie.Need-raise-requires
 raise-requires c κs = search needs

@@ -14,8 +14,6 @@ use Rattle.bspline.proofs.Accuracy.{row-accurate}
 use Rattle.spline.proofs.Rows.{row-length, row-begins}
 use Rattle.spline.proofs.row.transform.Statement.{statement}
 use Rattle.spline.proofs.row.transform.Tie as tie
-use Rattle.spline.proofs.row.transform.Reads as reads
-use Rattle.spline.proofs.row.transform.Lts as lts
 
 returns : tie.Need-returns
 unfolding rowTransform

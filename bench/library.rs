@@ -1,0 +1,59 @@
+//! The operations of the library, by its C functions: a slice passes as a pointer and a length.
+
+extern "C" {
+    fn spline_row_transform(
+        samples: *const i16,
+        samples_length: usize,
+        coefficients: *mut i32,
+        coefficients_length: usize,
+        work: *mut i64,
+        work_length: usize,
+    ) -> i64;
+
+    fn spline_picture_transform(
+        pixels: *const i16,
+        pixels_length: usize,
+        width: usize,
+        height: usize,
+        coefficients: *mut i32,
+        coefficients_length: usize,
+        work: *mut i64,
+        work_length: usize,
+    ) -> i64;
+}
+
+pub fn row_transform(samples: &[i16], coefficients: &mut [i32], work: &mut [i64]) -> i64 {
+    // SAFETY: each pointer and length are those of a slice, and the slices that are written are lent mutably.
+    unsafe {
+        spline_row_transform(
+            samples.as_ptr(),
+            samples.len(),
+            coefficients.as_mut_ptr(),
+            coefficients.len(),
+            work.as_mut_ptr(),
+            work.len(),
+        )
+    }
+}
+
+pub fn picture_transform(
+    pixels: &[i16],
+    width: usize,
+    height: usize,
+    coefficients: &mut [i32],
+    work: &mut [i64],
+) -> i64 {
+    // SAFETY: as above.
+    unsafe {
+        spline_picture_transform(
+            pixels.as_ptr(),
+            pixels.len(),
+            width,
+            height,
+            coefficients.as_mut_ptr(),
+            coefficients.len(),
+            work.as_mut_ptr(),
+            work.len(),
+        )
+    }
+}
