@@ -7,7 +7,7 @@ use borrow.Author.Tests.{ltb-false, eqb-true, not-false}
 use lib.Dec.{eqb}
 use lib.IntN.{ℤ}
 use lib.ListN.{length}
-use Rattle.bspline.specs.Outcomes.{Answer, count, refusal, Test, _when_, refusal-1, refusal-2, refusal-3, refusal-4, refusal-5, refusal-6, judged, Transformed, untouched, written, rowTransform, pictureTransform}
+use Rattle.bspline.specs.Outcomes.{Answer, count, refusal, Test, _when_, refusal-1, refusal-2, refusal-3, refusal-4, refusal-5, refusal-6, judged, Transformed, refused, accepted, rowTransform, pictureTransform}
 use Rattle.bspline.specs.Recursions.{margin}
 use Rattle.bspline.specs.Tables.{Shape, area}
 use Rattle.bspline.specs.Transforms.{rowCoefficients, pictureCoefficients}
@@ -18,17 +18,17 @@ Passed [] = Unit
 Passed ((k when c) ∷ tests) = (c ≡ false) × Passed tests
 
 -- what holds of every refusal, and of the accepted outcome where no condition holds, holds of whichever comes about
-judged-cases : {A : Type 0} (P : A → Type 0) (tests : List Test) (refused : ℕ → A) (accepted : A) →
-    ((k : ℕ) → P (refused k)) → (Passed tests → P accepted) → P (judged tests refused accepted)
-judged-cases P [] refused accepted f p = p tt
-judged-cases P ((k when true) ∷ tests) refused accepted f p = f k
-judged-cases P ((k when false) ∷ tests) refused accepted f p = judged-cases P tests refused accepted f (λ q. p (refl, q))
+judged-cases : {A : Type 0} (P : A → Type 0) (tests : List Test) (refuse : ℕ → A) (result : A) →
+    ((k : ℕ) → P (refuse k)) → (Passed tests → P result) → P (judged tests refuse result)
+judged-cases P [] refuse result f p = p tt
+judged-cases P ((k when true) ∷ tests) refuse result f p = f k
+judged-cases P ((k when false) ∷ tests) refuse result f p = judged-cases P tests refuse result f (λ q. p (refl, q))
 
 -- a transform answers a refusal, or the count of what is to be written
 transformed-answer : (P : Answer → Type 0) (tests : List Test) (n : ℕ) (C : List ℤ) (words : ℕ) (buffer work : List ℤ) →
-    ((k : ℕ) → P (refusal k)) → (Passed tests → P (count n)) → P (judged tests (untouched buffer work) (written n C words buffer work) .answer)
+    ((k : ℕ) → P (refusal k)) → (Passed tests → P (count n)) → P (judged tests (refused buffer work) (accepted n C words buffer work) .answer)
 transformed-answer P tests n C words buffer work f p =
-    judged-cases (λ (o : Transformed). P (o .answer)) tests (untouched buffer work) (written n C words buffer work) f p
+    judged-cases (λ (o : Transformed). P (o .answer)) tests (refused buffer work) (accepted n C words buffer work) f p
 
 -- the row transform: a count is the row's length, which is at most 4,096
 pub row-answer : (P : Answer → Type 0) (s buffer work : List ℤ) →

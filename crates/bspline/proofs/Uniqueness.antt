@@ -5,7 +5,7 @@
 use mathlib.Core.Path.{_≡_}
 use Prim.Native.Nat.{ℕ, _*_, _≤_, _<_}
 use native.Mathlib.Omega.{arith}
-use lib.IntN.{ℤ, pos, natAbs}
+use lib.IntN.{natAbs}
 use Rattle.integers.proofs.Absolute.{abs-zero}
 use Rattle.integers.proofs.Laws.{diff-zero, zero-diff}
 use Rattle.bspline.specs.Exact.{Fractions, Same, Solves, Grid, SameGrid, SolvesPicture, row, column}

@@ -65,9 +65,9 @@ refusal-9 n buffer = 9 when ltb (length buffer) n
 
 -- the first test whose condition holds refuses; where none does the call is accepted
 abbrev pub judged : {A : Type 0} → List Test → (ℕ → A) → A → A
-judged [] refused accepted = accepted
-judged ((k when true) ∷ tests) refused accepted = refused k
-judged ((k when false) ∷ tests) refused accepted = judged tests refused accepted
+judged [] refuse result = result
+judged ((k when true) ∷ tests) refuse result = refuse k
+judged ((k when false) ∷ tests) refuse result = judged tests refuse result
 
 -- numbers written from a buffer's start; every number beyond them stays
 abbrev pub overwrite : List ℤ → List ℤ → List ℤ
@@ -80,27 +80,27 @@ pub record Transformed : Type 0 where
   pub work : List ℤ
 
 -- a refused call changes nothing
-abbrev pub untouched : List ℤ → List ℤ → ℕ → Transformed
-untouched buffer work k = record { answer = refusal k; coefficients = buffer; work = work }
+abbrev pub refused : List ℤ → List ℤ → ℕ → Transformed
+refused buffer work k = record { answer = refusal k; coefficients = buffer; work = work }
 
 -- an accepted one writes n coefficients, and sets to 0 the words of work that it required
-abbrev pub written : ℕ → List ℤ → ℕ → List ℤ → List ℤ → Transformed
-written n C words buffer work = record { answer = count n; coefficients = overwrite C buffer; work = overwrite (replicate words (pos 0)) work }
+abbrev pub accepted : ℕ → List ℤ → ℕ → List ℤ → List ℤ → Transformed
+accepted n C words buffer work = record { answer = count n; coefficients = overwrite C buffer; work = overwrite (replicate words (pos 0)) work }
 
 -- row transform: 1, 2, 5, 6
 unfoldable pub rowTransform : List ℤ → List ℤ → List ℤ → Transformed
 rowTransform s buffer work =
     judged (refusal-1 (length s) ∷ refusal-2 (length s) ∷ refusal-5 (length s) work ∷ refusal-6 (length s) buffer ∷ [])
-    (untouched buffer work)
-    (written (length s) (rowCoefficients s) (length s + 2 * margin) buffer work)
+    (refused buffer work)
+    (accepted (length s) (rowCoefficients s) (length s + 2 * margin) buffer work)
 
 -- picture transform: 3 to 6
 unfoldable pub pictureTransform : Shape → List ℤ → List ℤ → List ℤ → Transformed
 pictureTransform d p buffer work =
     let longer = max (d .width) (d .height) in
     judged (refusal-3 d ∷ refusal-4 d p ∷ refusal-5 longer work ∷ refusal-6 (area d) buffer ∷ [])
-    (untouched buffer work)
-    (written (area d) (pictureCoefficients d p) (longer + 2 * margin) buffer work)
+    (refused buffer work)
+    (accepted (area d) (pictureCoefficients d p) (longer + 2 * margin) buffer work)
 
 -- ---- row zoom: the answer, and the value buffer afterwards. It tests 1, 2, 7, 9
 pub record Zoomed : Type 0 where

@@ -4,6 +4,7 @@ use Prim.Native.Nat.{ℕ, _+_, _-_, _*_, _/_, _%_, _^_}
 use lib.IntN.{ℤ, pos, _+ℤ_, _-ℤ_, _*ℤ_}
 use lib.ListN.{length}
 use Rattle.integers.specs.Rounding.{round}
+use Rattle.bspline.specs.Exact.{Fractions, Solves, Grid, SolvesPicture, whole, wholeGrid, Near}
 use Rattle.bspline.specs.Mirror.{mirror}
 use Rattle.bspline.specs.Tables.{Shape, tabulate, at, pixel}
 
@@ -60,3 +61,14 @@ zoomCount m n = (n - 1) * m + 1
 
 unfoldable pub zoomValues : ℕ → List ℤ → List ℤ
 zoomValues m c = tabulate (λ i. valueInRow m c (zoomPosition m i)) 0 (zoomCount m (length c))
+
+-- ---- distances
+-- the exact spline of a row is the weighted sum of the exact solution, over 6m³. A row value v of a row's coefficients is within 19/32 of 256 times it
+pub record RowValueAccurate (m : ℕ) (s : List ℤ) (p : Position) (v : ℤ) : Type 0 where
+  pub accurate : (c : Fractions) → Solves (length s) (whole s) c → Near 19 32 256 (6 * m ^ 3 * c .den) (rowSum m (length s) (c .num) p) v
+
+-- in a picture it is the sum with the multiplied weights, over 36m⁶, and v is within 15/16
+pub record PictureValueAccurate (m : ℕ) (d : Shape) (pixels : List ℤ) (px py : Position) (v : ℤ) : Type 0 where
+  pub accurate :
+      (c : Grid) → SolvesPicture (d .width) (d .height) (wholeGrid d pixels) c →
+      Near 15 16 256 (36 * m ^ 6 * c .den) (pictureSum m d (c .num) px py) v

@@ -1,9 +1,7 @@
 -- Answers as signed numbers, as the exported functions return them. Assumes nothing.
-use Prim.Native.Nat.{ℕ, _<_, _^_}
+use Prim.Native.Nat.{_<_, _^_}
 use lib.IntN.{ℤ, pos, negℤ}
 use Rattle.bspline.specs.Outcomes.{Answer, count, value, refusal}
-use Rattle.spline.specs.Answers.{number}
-use Rattle.spline.specs.declared.Refusal.{Refusal}
 
 -- a count and a value as themselves, a refusal's number negated
 abbrev pub code : Answer → ℤ

@@ -4,16 +4,17 @@
 -- remainder from 0 up (`modulo-remainder`, `modulo-remainder-less`, `floor-exact`). Assumes nothing.
 use mathlib.Core.Logic.{_⊎_, inl, inr}
 use mathlib.Core.Path.{_≡_, sym, _∙_, ap}
-use Prim.Native.Nat.{ℕ, suc, _<_}
-use native.Mathlib.Nat.{div-add-mod, mod-lt, div-le-self}
+use Prim.Native.Nat.{ℕ, suc, _*_, _^_, _<_}
+use native.Mathlib.Nat.{div-add-mod, mod-lt, div-le-self, mul-le-mul-left}
 use native.Mathlib.Omega.{arith}
 use lib.IntN.{ℤ, pos, negsuc, natAbs, _+ℤ_, _-ℤ_, _*ℤ_}
 use lib.Signed.{_≤ℤ_, _<ℤ_, quotZ, remZ, mag-rem}
 use mir.Facts.{toZ-ofZ}
 use mir.Syntax.{Width}
-use mir.Val.{SFits, toZ, ofZ}
+use mir.Val.{SFits, hbits, toZ, ofZ}
 use mir.ValLaws.{sfits-le}
 use Rattle.integers.specs.Division.{floor, modulo}
+use Rattle.integers.proofs.Absolute.{abs-mul, abs-fits, fits-abs}
 use Rattle.integers.proofs.Parts.{of-lt}
 use Rattle.integers.proofs.Laws.{≤ℤ-or->ℤ}
 use Rattle.integers.proofs.Linear.{reify, show}
@@ -22,6 +23,10 @@ use Rattle.integers.proofs.Division.{floor-unique, floor-multiple, modu
 -- two numbers with the same bits, as after `if x == 0`: `same-bits w64 x (pos 0) (c .fits .x) (sfits-lit tt) (c .if1 .taken)`
 pub same-bits : (w : Width) (x y : ℤ) → SFits w x → SFits w y → ofZ w x ≡ ofZ w y → x ≡ y
 same-bits w x y f g e = sym (toZ-ofZ f) ∙ ap (toZ w) e ∙ toZ-ofZ g
+
+-- a number of one width times a natural number, at a width that holds the product
+pub product-widens : {v : Width} (w : Width) (m : ℕ) (x : ℤ) → SFits v x → m * 2 ^ hbits v < 2 ^ hbits w → SFits w (pos m *ℤ x)
+product-widens {v} w m x f h = fits-abs w (pos m *ℤ x) (omega (arith, abs-mul (pos m) x, mul-le-mul-left m (abs-fits x f)))
 
 -- ---- the quotient and the remainder toward zero
 

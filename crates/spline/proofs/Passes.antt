@@ -1,7 +1,7 @@
 -- The two recursions as loops make them, one place a turn. A record says what holds after i turns; of each the laws say that it holds at the
 -- start, after one turn more, and what it says at the end. Assumes nothing.
 use mathlib.Core.List.{List, [], _∷_, _++_, append-assoc, append-nil}
-use mathlib.Core.Path.{_≡_, refl, sym, ap, _∙_}
+use mathlib.Core.Path.{_≡_, refl, sym, ap, subst, _∙_}
 use Prim.Native.Nat.{ℕ, zero, suc, _+_, _-_, _*_, _^_, _≤_, _<_, zero-le}
 use native.Mathlib.Nat.{le-refl, sub-zero}
 use native.Mathlib.Numerals.{add-one}
@@ -56,13 +56,16 @@ pub anticausal-none : (w : List ℤ) → AnticausalAt w (pos 0) (length w)
 unfolding backward
 anticausal-none w = record { within = le-refl (length w); reached = rw drop-length; small = zero-le }
 
-pub anticausal-more : {w : List ℤ} {b : ℤ} (j : ℕ) → AllWithin (81 * 2 ^ 27) w → AnticausalAt w b (suc j) → AnticausalAt w (anticausal (at w j) b) j
+-- from place i to the place j before it
+pub anticausal-more : {w : List ℤ} {b : ℤ} {i : ℕ} (j : ℕ) → suc j ≡ i → AllWithin (81 * 2 ^ 27) w → AnticausalAt w b i → AnticausalAt w (anticausal (at w j) b) j
 unfolding backward
-anticausal-more {w} {b} j h v = record {
-  within = omega (arith, v .within);
-  reached = rw (drop-cons w j (pos 0) (v .within), v .reached);
-  small = anticausal-range (27 * 2 ^ 28) (lit≤ tt) (at w j) b (h .within j) (v .small);
-}
+anticausal-more {w} {b} j e h u =
+    let v = subst (λ (k : ℕ). AnticausalAt w b k) (sym e) u in
+    record {
+      within = omega (arith, v .within);
+      reached = rw (drop-cons w j (pos 0) (v .within), v .reached);
+      small = anticausal-range (27 * 2 ^ 28) (lit≤ tt) (at w j) b (h .within j) (v .small);
+    }
 
 -- ---- the coefficients of the line's n places, stored from the last down: those from place i on are done
 backward-drop : (w : List ℤ) (j : ℕ) → backward (drop j w) ≡ drop j (backward w)

@@ -20,7 +20,8 @@ use Rattle.bspline.specs.Transforms.{firstPass, secondPass, pictureCoefficients
 use Rattle.bspline.proofs.Lines.{coefficients-same}
 use Rattle.bspline.proofs.Ranges.{first-pass-within}
 use Rattle.bspline.proofs.Tables.{place-below, raster-at, raster-length}
-use Rattle.spline.specs.Lines.{Lines, LinesFiltered, Raised}
+use Rattle.spline.specs.Lines.{Lines, LinesFiltered}
+use Rattle.spline.specs.Rows.{Raised}
 use Rattle.spline.specs.Pictures.{GoodSides}
 use Rattle.spline.proofs.Rows.{raised-loaded, raised-small}
 

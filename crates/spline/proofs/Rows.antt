@@ -1,7 +1,7 @@
 -- Samples in the coefficients' unit, and a row of them as one line of its buffer: it lies in the range of the line filter, and its coefficients are
 -- those of the row. Assumes nothing.
-use mathlib.Core.List.{List, _++_, map}
-use mathlib.Core.Path.{_≡_, refl, sym, ap, _∙_}
+use mathlib.Core.List.{List, _++_}
+use mathlib.Core.Path.{_≡_, ap, _∙_}
 use Prim.Native.Nat.{ℕ, _+_, _*_, _^_, _≤_, _<_}
 use native.Mathlib.Omega.{arith}
 use lib.IntN.{ℤ, pos, natAbs, _*ℤ_}
@@ -13,7 +13,8 @@ use Rattle.bspline.specs.Transforms.{rowCoefficients}
 use Rattle.bspline.proofs.Lines.{coefficients-same, coefficients-length}
 use Rattle.bspline.proofs.Ranges.{loaded-range}
 use Rattle.integers.proofs.Linear.{reify, show}
-use Rattle.spline.specs.Lines.{raised, Raised, Line, loadedLine}
+use Rattle.spline.specs.Lines.{Line, loadedLine}
+use Rattle.spline.specs.Rows.{raised, Raised}
 
 -- ---- samples in the coefficients' unit
 pub raised-at : {s c : List ℤ} → Raised s c → (k : ℕ) → at c k ≡ raised (at s k)

@@ -1,23 +1,13 @@
 -- Lines of the coefficient buffer: n numbers from `from` on, `step` apart. A row has step 1, a column the picture's width.
 -- The contracts of the line filter cite these. Assumes nothing.
-use mathlib.Core.List.{List, [], _∷_, map}
+use mathlib.Core.List.{List, [], _∷_}
 use mathlib.Core.Path.{_≡_}
 use Prim.Native.Nat.{ℕ, _+_, _*_, _^_, _≤_, _<_}
 use lib.IntN.{ℤ, pos, natAbs, _*ℤ_}
-use lib.ListN.{length, drop, set, replicate}
+use lib.ListN.{length, drop, set}
 use Rattle.bspline.specs.Bounds.{AllWithin}
 use Rattle.bspline.specs.Recursions.{margin, first, backward, coefficients}
 use Rattle.bspline.specs.Tables.{at}
-use Rattle.bspline.specs.Transforms.{rowCoefficients}
-
--- a sample or pixel in the coefficients' unit, 1/4096 of a count: a line of samples is one of coefficients before it is filtered
-abbrev pub raised : ℤ → ℤ
-raised s = pos 4096 *ℤ s
-
--- a buffer that holds samples in that unit. Samples are 16-bit numbers, so they are at most 2^15 from 0
-pub record Raised (s c : List ℤ) : Type 0 where
-  pub numbers : c ≡ map raised s
-  pub small : AllWithin (2 ^ 15) s
 
 -- t[k] of the line: 16 times its coefficient at place k
 abbrev pub loadedLine : ℕ → ℕ → List ℤ → ℕ → ℤ
@@ -59,9 +49,3 @@ pub record Lines (count between step n : ℕ) (c : List ℤ) : Type 0 where
 pub record LinesFiltered (count between step n : ℕ) (c₀ c : List ℤ) : Type 0 where
   pub long : length c ≡ length c₀
   pub filtered : (i k : ℕ) → i < count → k < n → at c (i * between + step * k) ≡ at (coefficients n (loadedLine (i * between) step c₀)) k
-
--- what the filter of a whole row leaves: its coefficients, and every word of work 0
-pub record RowFiltered (s c work : List ℤ) : Type 0 where
-  pub coefficients : c ≡ rowCoefficients s
-  pub small : AllWithin (2 ^ 15) s
-  pub cleared : work ≡ replicate (length s + 2 * margin) (pos 0)

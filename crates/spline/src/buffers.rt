@@ -2,7 +2,7 @@
 ghost use mathlib.Core.Path.{_≡_};
 ghost use lib.IntN.{pos};
 ghost use lib.ListN.{length, replicate};
-ghost use Rattle.spline.specs.Lines.{raised, Raised};
+ghost use Rattle.spline.specs.Rows.{raised, Raised};
 
 // A sample in the coefficients' unit, 1/4096 of a count.
 fn raised_sample(s: i16) -> i32

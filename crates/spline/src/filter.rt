@@ -52,7 +52,7 @@ fn causal_pass(c: &[i32], from: usize, step: usize, n: usize, work: &mut [i64])
     }
 }
 
-// The anticausal recursion over the right margin of a window of n + 48 places: b[n], from which the line's own places go on.
+// The anticausal recursion over the right margin of the window of a line of n: b[n], from which the line's own places go on.
 fn anticausal_margin(work: &[i64], n: usize) -> i64
     requires { ⌜ CausalWindow n (now work) ⌝ }
     ensures { λ r. ⌜ AnticausalAt (now (work .entry)) r (n + margin) ⌝ }

@@ -51,7 +51,9 @@ pub fn transform(
     coefficients: &mut [i32],
     work: &mut [i64],
 ) -> Written
-    ensures { λ r. ⌜ record { answer = written r; coefficients = now (coefficients .exit); work = now (work .exit) } ≡ pictureTransform (described shape) (now (pixels .entry)) (now (coefficients .entry)) (now (work .entry)) ⌝ }
+    ensures { λ r. ⌜
+        record { answer = written r; coefficients = now (coefficients .exit); work = now (work .exit) }
+        ≡ pictureTransform (described shape) (now (pixels .entry)) (now (coefficients .entry)) (now (work .entry)) ⌝ }
     ensures { λ r. ⌜ Promised (written r) (PictureAccurate (described shape) (now (pixels .entry)) (now (coefficients .exit))) ⌝ }
 {
     let width = shape.width;

@@ -1,12 +1,10 @@
 // The operations on rows.
 ghost use mathlib.Core.Path.{_≡_};
-ghost use Prim.Native.Nat.{_+_, _*_, _<_, _≤_};
-ghost use lib.ListN.{length};
+ghost use Prim.Native.Nat.{_+_, _<_};
 ghost use Rattle.bspline.specs.Exact.{RowAccurate};
-ghost use Rattle.bspline.specs.Outcomes.{Transformed, rowTransform};
-ghost use Rattle.bspline.specs.Recursions.{margin};
+ghost use Rattle.bspline.specs.Outcomes.{rowTransform};
 ghost use Rattle.spline.specs.Answers.{written, Promised};
-ghost use Rattle.spline.specs.Lines.{RowFiltered};
+ghost use Rattle.spline.specs.Rows.{RowBuffers, RowFiltered};
 use crate::Refusal;
 use crate::Written;
 use crate::buffers::clear;
@@ -18,7 +16,7 @@ const LONGEST_ROW: usize = 4096;
 
 // The coefficients of a row, into a buffer of as many numbers, with a work slice of just the words that it takes, which is cleared.
 fn filter_row(samples: &[i16], c: &mut [i32], work: &mut [i64])
-    requires { ⌜ (0 < length (now samples)) × (length (now samples) ≤ 4096) × (length (now c) ≡ length (now samples)) × (length (now work) ≡ length (now samples) + 2 * margin) ⌝ }
+    requires { ⌜ RowBuffers (now samples) (now c) (now work) ⌝ }
     ensures { λ _. ⌜ RowFiltered (now (samples .entry)) (now (c .exit)) (now (work .exit)) ⌝ }
 {
     raise(samples, c);
@@ -29,7 +27,9 @@ fn filter_row(samples: &[i16], c: &mut [i32], work: &mut [i64])
 // Row transform: the coefficients of n samples, from the buffer's start. The work slice has at least n + 48 words, and as many are 0
 // afterwards. Each coefficient is at most 3/2 from 4096 times the exact solution of the row.
 pub fn transform(samples: &[i16], coefficients: &mut [i32], work: &mut [i64]) -> Written
-    ensures { λ r. ⌜ record { answer = written r; coefficients = now (coefficients .exit); work = now (work .exit) } ≡ rowTransform (now (samples .entry)) (now (coefficients .entry)) (now (work .entry)) ⌝ }
+    ensures { λ r. ⌜
+        record { answer = written r; coefficients = now (coefficients .exit); work = now (work .exit) }
+        ≡ rowTransform (now (samples .entry)) (now (coefficients .entry)) (now (work .entry)) ⌝ }
     ensures { λ r. ⌜ Promised (written r) (RowAccurate (now (samples .entry)) (now (coefficients .exit))) ⌝ }
 {
     let n = samples.len();

@@ -1,13 +1,11 @@
 -- `exports::written_code` meets its contract: a count that is below 2^63 is cast without loss. Assumes nothing.
-use mathlib.Core.Path.{_≡_, sym, ap, _∙_}
-use native.Mathlib.Omega.{arith}
+use mathlib.Core.Path.{sym, ap, _∙_}
 use borrow.Author.Needs.{needs, sfits-of}
-use lib.IntN.{pos}
 use mir.Facts.{toZ-ofZ}
 use mir.Syntax.{w64}
 use mir.Val.{SFits}
 use Rattle.spline.specs.Answers.{written}
-use Rattle.exports.specs.Codes.{code, Countable}
+use Rattle.exports.specs.Codes.{code}
 use Rattle.exports.proofs.written_code.Statement.{statement}
 use Rattle.exports.proofs.written_code.Tie as tie
 

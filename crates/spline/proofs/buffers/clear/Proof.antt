@@ -1,6 +1,6 @@
 -- `spline::buffers::clear` meets its contract. The invariant, `Filled`: the first i words are 0. The measure is what is left. Assumes nothing.
 use mathlib.Core.Path.{_≡_, sym}
-use Prim.Native.Nat.{_+_, _-_}
+use Prim.Native.Nat.{_-_}
 use native.Mathlib.Omega.{arith}
 use lib.IntN.{pos}
 use lib.ListN.{length, replicate, length-replicate, getD-replicate}

@@ -2,10 +2,10 @@
 -- 16-bit numbers. The measure is what is left. Assumes nothing.
 use mathlib.Core.List.{map}
 use mathlib.Core.Path.{_≡_, sym, _∙_}
-use Prim.Native.Nat.{ℕ, _+_, _-_, _^_, _≤_, _<_}
+use Prim.Native.Nat.{ℕ, _-_, _^_, _≤_, _<_}
 use native.Mathlib.Omega.{arith}
 use borrow.Author.Count.{below-none, below-more}
-use borrow.Author.Needs.{needs, sfits-of}
+use borrow.Author.Needs.{sfits-of}
 use lib.IntN.{pos, natAbs}
 use lib.ListN.{length, length-map, List·getD-map}
 use mir.Facts.{toZ-ofZ}
@@ -14,7 +14,7 @@ use mir.Val.{SFits}
 use Rattle.bspline.specs.Tables.{at}
 use Rattle.bspline.proofs.Bounds.{places-within}
 use Rattle.integers.proofs.Absolute.{abs-fits}
-use Rattle.spline.specs.Lines.{raised}
+use Rattle.spline.specs.Rows.{raised}
 use Rattle.spline.proofs.Fill.{Filled, filled-none, filled-more, filled-all}
 use Rattle.spline.proofs.buffers.raise.Statement.{statement}
 use Rattle.spline.proofs.buffers.raise.Tie as tie

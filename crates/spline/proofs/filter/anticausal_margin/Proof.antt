@@ -1,14 +1,13 @@
 -- `spline::filter::anticausal_margin` meets its contract. The invariant, `AnticausalAt`: b is that of place i of the window. The measure is how far
 -- i is from the line's end. Assumes nothing.
-use mathlib.Core.Path.{_≡_, ap, _∙_}
-use Prim.Native.Nat.{ℕ, suc, _+_, _-_, _*_, _^_, _≤_, _<_}
+use mathlib.Core.Path.{_≡_}
+use Prim.Native.Nat.{ℕ, _+_, _-_, _≤_}
 use native.Mathlib.Omega.{arith}
 use borrow.Author.Needs.{needs, sfits-of}
-use lib.ListN.{drop}
 use mir.Facts.{toZ-ofZ}
 use mir.Syntax.{w64}
 use mir.Val.{SFits, toZ}
-use Rattle.bspline.specs.Recursions.{margin, first, backward}
+use Rattle.bspline.specs.Recursions.{margin}
 use Rattle.bspline.specs.Tables.{at}
 use Rattle.spline.specs.Lines.{AnticausalAt}
 use Rattle.spline.proofs.Passes.{anticausal-none, anticausal-more}
@@ -44,14 +43,11 @@ module _ (c : tie.After-anticausal-step-arg Inv-loop μ-loop) where
   abbrev j : ℕ
   j = head .loop .i - 1
 
-  read-fits : SFits w64 (at (head .before .args .work .now) j)
-  read-fits = sfits-of (c .anticausal-step-arg .given)
-
-  invariant : AnticausalAt (head .before .args .work .now) (toZ w64 (head .loop .b)) (suc j)
-  invariant = let e : suc j ≡ head .loop .i = omega arith in rw e (head .loop .inv .0)
+  p-fits : SFits w64 (at (head .before .args .work .now) j)
+  p-fits = sfits-of (c .anticausal-step-arg .given)
 
 anticausal-step-requires : tie.Need-anticausal-step-requires Inv-loop μ-loop
-anticausal-step-requires c κs = rw (toZ-ofZ (read-fits c)) (head c .before .pre .small .within (j c), invariant c .small)
+anticausal-step-requires c κs = rw (toZ-ofZ (p-fits c)) (head c .before .pre .small .within (j c), head c .loop .inv .0 .small)
 
 loop-less : tie.Need-loop-less Inv-loop μ-loop
 loop-less c = omega arith
@@ -59,8 +55,11 @@ loop-less c = omega arith
 loop-again : tie.Need-loop-again Inv-loop μ-loop
 loop-again c =
     let a = c .before in
-    let f : SFits w64 (c .anticausal-step .result) = sfits-of (c .anticausal-step .ok) in
-    (rw (toZ-ofZ f, rw (toZ-ofZ (read-fits a)) at (c .anticausal-step .ensures)) (anticausal-more (j a) (head a .before .pre .small) (invariant a)), omega arith)
+    let f : SFits w64 (c .anticausal-step .result) = sfits-of (c .anticausal-step .ok) in (
+      rw (toZ-ofZ f, rw (toZ-ofZ (p-fits a)) at (c .anticausal-step .ensures))
+          (anticausal-more (j a) (omega arith) (head a .before .pre .small) (head a .loop .inv .0)),
+      omega arith,
+    )
 
 returns : tie.Need-returns Inv-loop μ-loop
 returns c =

@@ -1,15 +1,14 @@
 -- `spline::filter::anticausal_pass` meets its contract. The invariant: b is that of place i + 24 of the window (`AnticausalAt`), and the
 -- coefficients from place i of the line on are stored (`Stored`). The measure is i. Assumes nothing.
 use mathlib.Core.Path.{_≡_, sym, _∙_}
-use Prim.Native.Nat.{ℕ, suc, _+_, _-_, _*_, _^_, _≤_, _<_}
+use Prim.Native.Nat.{ℕ, suc, _+_, _-_, _*_, _≤_, _<_}
 use native.Mathlib.Omega.{arith}
-use borrow.Author.Needs.{needs, sfits-of}
-use lib.IntN.{ℤ, natAbs}
+use borrow.Author.Needs.{sfits-of}
 use lib.ListN.{length}
 use mir.Facts.{toZ-ofZ}
 use mir.Syntax.{w32, w64}
 use mir.Val.{SFits, toZ}
-use Rattle.bspline.specs.Recursions.{margin, anticausal, coefficient, backward, delivered}
+use Rattle.bspline.specs.Recursions.{margin, backward, delivered}
 use Rattle.bspline.specs.Tables.{at}
 use Rattle.bspline.proofs.Lines.{backward-length, delivered-length}
 use Rattle.spline.specs.Lines.{AnticausalAt}
@@ -52,14 +51,11 @@ module _ (c : tie.After-anticausal-step-arg Inv-loop μ-loop) where
   abbrev j : ℕ
   j = head .loop .i - 1
 
-  read-fits : SFits w64 (at (head .before .args .work .now) (j + margin))
-  read-fits = sfits-of (c .anticausal-step-arg .given)
-
-  invariant : AnticausalAt (head .before .args .work .now) (toZ w64 (head .loop .b)) (suc (j + margin))
-  invariant = let e : suc (j + margin) ≡ head .loop .i + margin = omega arith in rw e (head .loop .inv .0)
+  p-fits : SFits w64 (at (head .before .args .work .now) (j + margin))
+  p-fits = sfits-of (c .anticausal-step-arg .given)
 
 anticausal-step-requires : tie.Need-anticausal-step-requires Inv-loop μ-loop
-anticausal-step-requires c κs = rw (toZ-ofZ (read-fits c)) (head c .before .pre .0 .small .within (j c + margin), invariant c .small)
+anticausal-step-requires c κs = rw (toZ-ofZ (p-fits c)) (head c .before .pre .0 .small .within (j c + margin), head c .loop .inv .0 .small)
 
 -- the new b, that of place i - 1
 module _ (c : tie.After-anticausal-step Inv-loop μ-loop) where
@@ -68,8 +64,8 @@ module _ (c : tie.After-anticausal-step Inv-loop μ-loop) where
 
   b-next : AnticausalAt (head (c .before) .before .args .work .now) (c .anticausal-step .result) (j (c .before) + margin)
   b-next =
-      rw (rw (toZ-ofZ (read-fits (c .before))) at (c .anticausal-step .ensures))
-      (anticausal-more (j (c .before) + margin) (head (c .before) .before .pre .0 .small) (invariant (c .before)))
+      rw (rw (toZ-ofZ (p-fits (c .before))) at (c .anticausal-step .ensures))
+      (anticausal-more (j (c .before) + margin) (omega arith) (head (c .before) .before .pre .0 .small) (head (c .before) .loop .inv .0))
 
   inside : head (c .before) .before .args .from + head (c .before) .before .args .step * j (c .before) < length (head (c .before) .before .args .c .now)
   inside = head (c .before) .before .pre .2 .inside (j (c .before)) (omega arith)

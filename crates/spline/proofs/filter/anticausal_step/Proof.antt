@@ -1,13 +1,12 @@
 -- `spline::filter::anticausal_step` meets its contract: the product of the greatest p and b of both passes fits 64 bits. Assumes nothing.
-use mathlib.Core.Path.{_≡_}
 use Prim.Native.Nat.{_+_, _^_, _≤_}
 use native.Mathlib.Omega.{arith}
 use borrow.Author.Needs.{sfits-of}
-use lib.IntN.{ℤ, pos, natAbs, _-ℤ_, _*ℤ_}
+use lib.IntN.{ℤ, natAbs, _-ℤ_, _*ℤ_}
 use mir.Facts.{toZ-ofZ}
 use mir.Syntax.{w64}
 use mir.Val.{SFits}
-use Rattle.bspline.specs.Recursions.{Z, R, anticausal}
+use Rattle.bspline.specs.Recursions.{Z, anticausal}
 use Rattle.bspline.proofs.Ranges.{product-fits}
 use Rattle.integers.proofs.Absolute.{abs-sub, fits-abs}
 use Rattle.spline.proofs.filter.anticausal_step.Statement.{statement}

@@ -1,16 +1,16 @@
 -- `spline::filter::causal_step` meets its contract: the product and the difference fit 64 bits under the greatest bounds of both passes.
 -- Assumes nothing.
 use mathlib.Core.Path.{_≡_}
-use Prim.Native.Nat.{_+_, _*_, _^_, _≤_, _<_}
+use Prim.Native.Nat.{_+_, _*_, _^_, _≤_}
 use native.Mathlib.Omega.{arith}
 use borrow.Author.Needs.{sfits-of}
 use lib.Dec.{lit≤}
-use lib.IntN.{ℤ, pos, natAbs, _-ℤ_, _*ℤ_}
+use lib.IntN.{ℤ, natAbs, _-ℤ_, _*ℤ_}
 use mir.Facts.{toZ-ofZ}
 use mir.Syntax.{w64}
 use mir.Val.{SFits}
 use Rattle.bspline.specs.Recursions.{Z, R, causal}
-use Rattle.bspline.proofs.Ranges.{causal-range, product-fits}
+use Rattle.bspline.proofs.Ranges.{causal-range}
 use Rattle.integers.proofs.Absolute.{abs-mul, fits-abs}
 use Rattle.spline.proofs.filter.causal_step.Statement.{statement}
 use Rattle.spline.proofs.filter.causal_step.Tie as tie

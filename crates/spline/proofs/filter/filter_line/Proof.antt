@@ -1,7 +1,7 @@
 -- `spline::filter::filter_line` meets its contract: the causal pass leaves the p of the line's window, in range, the margin gives b[n], and the
 -- anticausal pass stores the coefficients of that window. Assumes nothing.
 use mathlib.Core.List.{List}
-use mathlib.Core.Path.{_≡_, ap, _∙_}
+use mathlib.Core.Path.{ap, _∙_}
 use Prim.Native.Nat.{ℕ, _+_, _*_, _^_, _≤_, _<_, zero-le}
 use borrow.Author.Needs.{needs, sfits-of}
 use lib.Dec.{lit≤}

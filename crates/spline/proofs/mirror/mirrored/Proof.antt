@@ -1,7 +1,7 @@
 -- `spline::mirror::mirrored` meets its contract: a row of one reads place 0, an index inside the row is its own place, and elsewhere the
 -- remainder that the code computes is the index modulo 2(n - 1), which is folded as the definition folds it. Assumes nothing.
 use mathlib.Core.Path.{_≡_, sym}
-use Prim.Native.Nat.{ℕ, _+_, _-_, _*_, _%_, _<_, _≤_}
+use Prim.Native.Nat.{_+_, _-_, _*_, _<_, _≤_}
 use native.Mathlib.Nat.{mod-lt}
 use native.Mathlib.Omega.{arith}
 use borrow.Author.Needs.{needs}

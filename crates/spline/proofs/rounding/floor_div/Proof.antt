@@ -12,7 +12,7 @@ use mir.Val.{SFits}
 use Rattle.integers.specs.Division.{modulo}
 use Rattle.integers.proofs.Absolute.{abs-sub, fits-abs}
 use Rattle.integers.proofs.Division.{modulo-below, floor-fits}
-use Rattle.integers.proofs.Linear.{reify, read, show}
+use Rattle.integers.proofs.Linear.{reify, read}
 use Rattle.integers.proofs.Machine.{div-asks, floor-exact}
 use Rattle.spline.proofs.rounding.floor_div.Statement.{statement}
 use Rattle.spline.proofs.rounding.floor_div.Tie as tie

@@ -1,6 +1,5 @@
 -- `spline::rounding::modulo` meets its contract: the remainder toward zero, and d more where it is negative, is the remainder from 0 up.
 -- Assumes nothing.
-use mathlib.Core.Path.{_≡_}
 use Prim.Native.Nat.{_<_}
 use native.Mathlib.Omega.{arith}
 use lib.IntN.{ℤ, pos, negsuc, natAbs, _+ℤ_}

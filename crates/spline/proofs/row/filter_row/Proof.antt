@@ -1,7 +1,6 @@
 -- `spline::row::filter_row` meets its contract: the raised row is a line of its buffer, whose coefficients are those of the row.
 -- Assumes nothing.
 use mathlib.Core.Path.{_≡_, sym, ap, _∙_}
-use native.Mathlib.Omega.{arith}
 use borrow.Author.Needs.{needs}
 use lib.IntN.{pos}
 use lib.ListN.{length, replicate}
@@ -16,13 +15,13 @@ raise-requires : tie.Need-raise-requires
 raise-requires c κs = search needs
 
 raised-long : (c : tie.After-raise) → length (c .raise .last .1 .0) ≡ length (c .before .before .args .samples .now)
-raised-long c = c .raise .kept .1 .0 ∙ c .before .before .pre .2
+raised-long c = c .raise .kept .1 .0 ∙ c .before .before .pre .coefficients
 
 filter-line-requires : tie.Need-filter-line-requires
 filter-line-requires c κs =
     let r = c .before .before .before in
     let s = r .before .before in
-    (row-line (r .raise .ensures) (s .pre .0) (s .pre .1) (raised-long r), s .pre .3)
+    (row-line (r .raise .ensures) (s .pre .some) (s .pre .short) (raised-long r), s .pre .words)
 
 clear-requires : tie.Need-clear-requires
 clear-requires c κs = search needs
@@ -38,14 +37,14 @@ returns c =
     let f = c .before .before .before .before .before in
     let r = f .before .before .before .before in
     let s = r .before .before in
-    let e = row-coefficients (r .raise .ensures) (s .pre .0) (s .pre .1) (raised-long r) in
+    let e = row-coefficients (r .raise .ensures) (s .pre .some) (s .pre .short) (raised-long r) in
     record {
       coefficients =
           f .filter-line .ensures
           ∙ ap (λ C. scatter 0 1 C (r .raise .last .1 .0)) e
           ∙ scatter-whole (rowCoefficients (s .args .samples .now)) (r .raise .last .1 .0) (raised-long r ∙ sym (row-length (s .args .samples .now)));
       small = r .raise .ensures .small;
-      cleared = c .before .clear .ensures ∙ ap (λ n. replicate n (pos 0)) (f .filter-line .kept .1 .1 .1 .1 .0 ∙ s .pre .3);
+      cleared = c .before .clear .ensures ∙ ap (λ n. replicate n (pos 0)) (f .filter-line .kept .1 .1 .1 .1 .0 ∙ s .pre .words);
     }
 
 pub filter-row-spec : {M : Type 1} → statement M

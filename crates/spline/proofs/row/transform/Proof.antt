@@ -1,7 +1,7 @@
 -- `spline::row::transform` meets its contract: each refusal is the first test that holds, and where none does the parts of the two buffers that the
 -- filter is lent become the row's coefficients and zeros. Assumes nothing.
-use mathlib.Core.Path.{_≡_, sym, ap, _∙_}
-use Prim.Native.Nat.{ℕ, _+_, _*_, _≤_}
+use mathlib.Core.Path.{sym}
+use Prim.Native.Nat.{_+_, _*_}
 use native.Mathlib.Omega.{arith}
 use borrow.Author.Needs.{needs}
 use borrow.Author.Tests.{lt-ltb, le-ltb, eq-eqb, ne-eqb}
@@ -60,12 +60,13 @@ slice-aggregate-filter-row-2 c =
 
 filter-row-requires : tie.Need-filter-row-requires
 filter-row-requires c κs =
-    let a = c .before .before .before .before .before .before .args in (
-      omega arith,
-      omega arith,
-      length-take-le (length (a .samples .now)) (a .coefficients .now) (omega arith),
-      length-take-le (length (a .samples .now) + 2 * margin) (a .work .now) (omega arith),
-    )
+    let a = c .before .before .before .before .before .before .args in
+    record {
+      some = omega arith;
+      short = omega arith;
+      coefficients = length-take-le (length (a .samples .now)) (a .coefficients .now) (omega arith);
+      words = length-take-le (length (a .samples .now) + 2 * margin) (a .work .now) (omega arith);
+    }
 
 same-length : tie.Need-same-length
 same-length c = search needs
