@@ -20,6 +20,14 @@ extern "C" {
         work: *mut i64,
         work_length: usize,
     ) -> i64;
+
+    fn spline_row_zoom(
+        coefficients: *const i32,
+        coefficients_length: usize,
+        factor: usize,
+        values: *mut i32,
+        values_length: usize,
+    ) -> i64;
 }
 
 pub fn row_transform(samples: &[i16], coefficients: &mut [i32], work: &mut [i64]) -> i64 {
@@ -54,6 +62,19 @@ pub fn picture_transform(
             coefficients.len(),
             work.as_mut_ptr(),
             work.len(),
+        )
+    }
+}
+
+pub fn row_zoom(coefficients: &[i32], factor: usize, values: &mut [i32]) -> i64 {
+    // SAFETY: as above.
+    unsafe {
+        spline_row_zoom(
+            coefficients.as_ptr(),
+            coefficients.len(),
+            factor,
+            values.as_mut_ptr(),
+            values.len(),
         )
     }
 }

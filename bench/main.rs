@@ -11,9 +11,10 @@ mod rust;
 use std::process::ExitCode;
 use std::time::{Duration, Instant};
 
-/// What an operation reads.
+/// What an operation reads: samples or pixels, or the coefficients of samples.
 struct Input {
     samples: Vec<i16>,
+    coefficients: Vec<i32>,
 }
 
 /// What an operation answers and writes.
@@ -25,12 +26,14 @@ struct Output {
 
 type Operation = fn(&Input, &mut Output);
 
-/// One line of the table: what is measured, how often, and how many numbers it reads, writes and works in.
+/// One line of the table: what is measured, how often, and how many numbers it reads, writes and works in. Coefficients are those of the
+/// samples of a row; an operation that reads no coefficients has 0 of them.
 struct Case {
     name: &'static str,
     title: &'static str,
     repetitions: u64,
     samples: usize,
+    coefficients: usize,
     numbers: usize,
     work: usize,
     library: Operation,
@@ -39,13 +42,15 @@ struct Case {
 
 const ROW: usize = 4096;
 const SIDE: usize = 512;
+const FACTOR: usize = 16;
 
-const CASES: [Case; 2] = [
+const CASES: [Case; 3] = [
     Case {
         name: "row_transform",
         title: "row transform, 4096 samples",
         repetitions: 2000,
         samples: ROW,
+        coefficients: 0,
         numbers: ROW,
         work: ROW + 48,
         library: |from, to| {
@@ -60,6 +65,7 @@ const CASES: [Case; 2] = [
         title: "picture transform, 512 x 512 pixels",
         repetitions: 60,
         samples: SIDE * SIDE,
+        coefficients: 0,
         numbers: SIDE * SIDE,
         work: SIDE + 48,
         library: |from, to| {
@@ -76,7 +82,44 @@ const CASES: [Case; 2] = [
                 rust::picture_transform(&from.samples, SIDE, SIDE, &mut to.numbers, &mut to.work);
         },
     },
+    Case {
+        name: "row_zoom",
+        title: "row zoom, 4096 samples at factor 16",
+        repetitions: 500,
+        samples: ROW,
+        coefficients: ROW,
+        numbers: (ROW - 1) * FACTOR + 1,
+        work: 0,
+        library: |from, to| {
+            to.answer = library::row_zoom(&from.coefficients, FACTOR, &mut to.numbers);
+        },
+        rust: |from, to| {
+            to.answer = rust::row_zoom(&from.coefficients, FACTOR, &mut to.numbers);
+        },
+    },
 ];
+
+impl Input {
+    fn new(case: &Case) -> Input {
+        Input {
+            samples: vec![0; case.samples],
+            coefficients: vec![0; case.coefficients],
+        }
+    }
+
+    /// The data of one repetition. Coefficients are made by the library's transform, which a case of its own compares with Rust.
+    fn fill(&mut self, repetition: u64) -> Result<(), String> {
+        data::fill(repetition, &mut self.samples);
+        if self.coefficients.is_empty() {
+            return Ok(());
+        }
+        let mut work = vec![0; self.samples.len() + 48];
+        match library::row_transform(&self.samples, &mut self.coefficients, &mut work) {
+            answer if answer < 0 => Err(format!("the row transform refused, {answer}")),
+            _ => Ok(()),
+        }
+    }
+}
 
 impl Output {
     fn new(case: &Case) -> Output {
@@ -128,14 +171,12 @@ fn difference(library: &Output, rust: &Output) -> Option<String> {
 
 /// The least times of the library and of Rust. They take turns in going first.
 fn measure(case: &Case) -> Result<(Duration, Duration), String> {
-    let mut from = Input {
-        samples: vec![0; case.samples],
-    };
+    let mut from = Input::new(case);
     let mut by_library = Output::new(case);
     let mut by_rust = Output::new(case);
     let mut least = (Duration::MAX, Duration::MAX);
     for repetition in 0..case.repetitions {
-        data::fill(repetition, &mut from.samples);
+        from.fill(repetition)?;
         // Even repetitions are noise and odd ones are clicks; each kind is measured in both orders.
         let library_first = repetition / 2 % 2 == 0;
         if library_first {

@@ -4,6 +4,7 @@ const POLE: i64 = 575_416_509;
 const MARGIN: usize = 24;
 const LONGEST_ROW: usize = 4096;
 const LONGEST_SIDE: usize = 512;
+const LARGEST_FACTOR: usize = 16;
 
 /// a / 2^31 to the nearest whole number, a tie going up.
 fn rounded(a: i64) -> i64 {
@@ -113,5 +114,63 @@ pub fn picture_transform(
         });
     }
     work.fill(0);
+    count as i64
+}
+
+/// The weights over 6m³ of the four coefficients around a position with the numerator j.
+fn weights(j: i64, m: i64) -> [i64; 4] {
+    [
+        (m - j).pow(3),
+        3 * j.pow(3) - 6 * j * j * m + 4 * m.pow(3),
+        -3 * j.pow(3) + 3 * j * j * m + 3 * j * m * m + m.pow(3),
+        j.pow(3),
+    ]
+}
+
+/// The value of the four coefficients around a position: the weighted sum over 96m³ to the nearest whole number, a tie going up.
+fn value(around: [i64; 4], weights: &[i64; 4], divisor: i64) -> i32 {
+    let sum: i64 = around.iter().zip(weights).map(|(c, w)| c * w).sum();
+    (sum + divisor / 2).div_euclid(divisor) as i32
+}
+
+/// The four coefficients around a place; only at the ends do they need the mirrored index.
+fn around(coefficients: &[i32], k: usize) -> [i64; 4] {
+    let n = coefficients.len();
+    if k >= 1 && k + 2 < n {
+        let four = &coefficients[k - 1..k + 3];
+        return [four[0], four[1], four[2], four[3]].map(i64::from);
+    }
+    [-1, 0, 1, 2].map(|i| i64::from(coefficients[mirrored(k as i64 + i, n)]))
+}
+
+/// The count of values written, or the number of the refusal negated.
+pub fn row_zoom(coefficients: &[i32], factor: usize, values: &mut [i32]) -> i64 {
+    let n = coefficients.len();
+    if n == 0 {
+        return -1;
+    }
+    if n > LONGEST_ROW {
+        return -2;
+    }
+    if factor == 0 || factor > LARGEST_FACTOR {
+        return -7;
+    }
+    let count = (n - 1) * factor + 1;
+    let Some(values) = values.get_mut(..count) else {
+        return -9;
+    };
+    let m = factor as i64;
+    let divisor = 96 * m.pow(3);
+    let mut table = [[0; 4]; LARGEST_FACTOR];
+    for (j, entry) in table[..factor].iter_mut().enumerate() {
+        *entry = weights(j as i64, m);
+    }
+    for (k, to) in values.chunks_mut(factor).enumerate() {
+        let around = around(coefficients, k);
+        // The last chunk holds one value only: the zoom ends at the last sample.
+        for (to, weights) in to.iter_mut().zip(&table) {
+            *to = value(around, weights, divisor);
+        }
+    }
     count as i64
 }

@@ -1,7 +1,7 @@
 """Measures scipy on the data of data.rs.
 
 'scipy_times.py version' prints the version of scipy. 'scipy_times.py NAME REPETITIONS' prints two times in microseconds: the minimum of one case
-over its repetitions, and what the same call takes on 2 samples or 2 x 2 pixels, which is nearly all Python's and not scipy's own work.
+over its repetitions, and what the same call takes on the smallest data, which is nearly all Python's and not scipy's own work.
 """
 import sys
 import time
@@ -38,30 +38,55 @@ def samples(repetition, count):
     return (faint + click).astype(numpy.int16)
 
 
-def row_transform(row, output):
-    ndimage.spline_filter1d(row, order=3, output=output, mode="mirror")
+class Transform:
+    """spline_filter1d of a row or spline_filter of a picture, from 16-bit samples."""
+
+    def __init__(self, shape):
+        self.shape = shape
+        self.output = numpy.zeros(shape, numpy.float64)
+        self.filter = ndimage.spline_filter1d if len(shape) == 1 else ndimage.spline_filter
+
+    def load(self, data):
+        self.data = data.reshape(self.shape)
+
+    def call(self):
+        self.filter(self.data, order=3, output=self.output, mode="mirror")
 
 
-def picture_transform(picture, output):
-    ndimage.spline_filter(picture, order=3, output=output, mode="mirror")
+class Zoom:
+    """map_coordinates of coefficients in float64, which are made outside the time, at every position of the zoom."""
+
+    FACTOR = 16
+
+    def __init__(self, shape):
+        (n,) = self.shape = shape
+        self.positions = numpy.arange((n - 1) * self.FACTOR + 1).reshape(1, -1) / self.FACTOR
+        self.output = numpy.zeros(self.positions.shape[1], numpy.float64)
+
+    def load(self, data):
+        self.data = ndimage.spline_filter1d(data, order=3, output=numpy.float64, mode="mirror")
+
+    def call(self):
+        ndimage.map_coordinates(self.data, self.positions, output=self.output, order=3, prefilter=False, mode="mirror")
 
 
 # Each case: the call, the shape of its data, and a shape so small that only the call itself takes time.
 CASES = {
-    "row_transform": (row_transform, (4096,), (2,)),
-    "picture_transform": (picture_transform, (512, 512), (2, 2)),
+    "row_transform": (Transform, (4096,), (2,)),
+    "picture_transform": (Transform, (512, 512), (2, 2)),
+    "row_zoom": (Zoom, (4096,), (2,)),
 }
 
 
 def least(operation, shape, repetitions):
     count = int(numpy.prod(shape))
-    output = numpy.zeros(shape, numpy.float64)
+    case = operation(shape)
     times = []
     for repetition in range(repetitions):
-        data = samples(repetition, count).reshape(shape)
-        output.fill(-1.0)
+        case.load(samples(repetition, count))
+        case.output.fill(-1.0)
         start = time.perf_counter_ns()
-        operation(data, output)
+        case.call()
         times.append(time.perf_counter_ns() - start)
     return min(times) / 1000
 

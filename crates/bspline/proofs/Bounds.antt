@@ -26,6 +26,10 @@ cons-within {B} {x} {l} h g = record { within = each }
 pub rest-within : {B : ℕ} {x : ℤ} {l : List ℤ} → AllWithin B (x ∷ l) → AllWithin B l
 rest-within h = record { within = λ k. h .within (suc k) }
 
+-- a greater bound
+pub all-weaken : {A B : ℕ} {l : List ℤ} → A ≤ B → AllWithin A l → AllWithin B l
+all-weaken {l = l} h g = record { within = λ k. omega (arith, g .within k, h) }
+
 -- a table of a function that is within the bound below a + n
 pub tabulate-within : (B : ℕ) (f : ℕ → ℤ) (a n : ℕ) → ((k : ℕ) → k < a + n → natAbs (f k) ≤ B) → AllWithin B (tabulate f a n)
 unfolding tabulate

@@ -1,5 +1,5 @@
 -- The theory of the definitions in specs/. The exact solution exists, it is the only one, and it is stable; the numbers of a line stay in range and
--- near the exact solution; the marked examples hold.
+-- near the exact solution; values between samples are near the exact spline and return the samples; the marked examples hold.
 pub mod Below
 pub mod Comparison
 pub mod Mirror
@@ -16,4 +16,6 @@ pub mod Residual
 pub mod Margin
 pub mod Accuracy
 pub mod Outcomes
+pub mod Weights
+pub mod Values
 pub mod Worked

@@ -1,12 +1,14 @@
 // The operations with the C calling convention, for tests and benchmarks in other languages. No part of the library: nothing in the
 // repository but tests/ and bench/ uses it.
 ghost use mathlib.Core.Path.{_≡_};
-ghost use Rattle.bspline.specs.Outcomes.{refusal, rowTransform, pictureTransform};
-ghost use Rattle.spline.specs.Answers.{number, written};
+ghost use Rattle.bspline.specs.Outcomes.{refusal, rowTransform, pictureTransform, rowZoom, rowValue, pictureValue};
+ghost use Rattle.spline.specs.Answers.{number, valued, written};
 ghost use Rattle.spline.specs.Pictures.{sides};
-ghost use Rattle.exports.specs.Codes.{code, Countable};
+ghost use Rattle.exports.specs.Codes.{code, valueCode, Countable};
+use spline::Position;
 use spline::Refusal;
 use spline::Shape;
+use spline::Valued;
 use spline::Written;
 
 // A refusal's number, negated.
@@ -37,6 +39,16 @@ fn written_code(w: Written) -> i64
     }
 }
 
+// A value as itself, or 2^32, which is above every value, plus a refusal's number.
+fn valued_code(v: Valued) -> i64
+    ensures { λ x. ⌜ x ≡ valueCode (valued v) ⌝ }
+{
+    match v {
+        Valued::Value(x) => x as i64,
+        Valued::Refused(r) => 4294967296 - refusal_code(r),
+    }
+}
+
 #[no_mangle]
 pub extern "C" fn spline_row_transform(
     samples: &[i16],
@@ -60,4 +72,41 @@ pub extern "C" fn spline_picture_transform(
 {
     let shape = Shape { width, height };
     written_code(spline::picture::transform(pixels, shape, coefficients, work))
+}
+
+#[no_mangle]
+pub extern "C" fn spline_row_zoom(coefficients: &[i32], m: usize, values: &mut [i32]) -> i64
+    ensures { λ r. ⌜ r ≡ code (rowZoom m (now (coefficients .entry)) (now (values .entry)) .answer) ⌝ }
+{
+    written_code(spline::row::zoom(coefficients, m, values))
+}
+
+#[no_mangle]
+pub extern "C" fn spline_row_value(coefficients: &[i32], k: usize, j: usize, m: usize) -> i64
+    ensures { λ r. ⌜ r ≡ valueCode (rowValue m (now (coefficients .entry)) (record { k = k; j = j })) ⌝ }
+{
+    let position = Position { k, j };
+    valued_code(spline::row::value(coefficients, position, m))
+}
+
+#[no_mangle]
+pub extern "C" fn spline_picture_value(
+    coefficients: &[i32],
+    width: usize,
+    height: usize,
+    kx: usize,
+    jx: usize,
+    ky: usize,
+    jy: usize,
+    m: usize,
+) -> i64
+    ensures { λ r. ⌜
+        r
+        ≡ valueCode
+        (pictureValue m (sides width height) (now (coefficients .entry)) (record { k = kx; j = jx }) (record { k = ky; j = jy })) ⌝ }
+{
+    let sides = Shape { width, height };
+    let x = Position { k: kx, j: jx };
+    let y = Position { k: ky, j: jy };
+    valued_code(spline::picture::value(coefficients, sides, x, y, m))
 }

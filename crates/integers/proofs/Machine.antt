@@ -1,13 +1,14 @@
 -- What the machine asks and gives of signed numbers: a number from its bits, and `/` and `%`, which round toward zero.
 -- `div-asks` is what the two operations ask, `quot-fits` and `rem-fits` strip the bits off their results. The floor is the quotient, less one
 -- where the remainder is negative (`floor-quotient`, `floor-quotient-less`); or it is the exact quotient of what is left without the
--- remainder from 0 up (`modulo-remainder`, `modulo-remainder-less`, `floor-exact`). Assumes nothing.
+-- remainder from 0 up (`modulo-remainder`, `modulo-remainder-less`, `floor-exact`); or, for a number that a multiple of d brings to 0 or above, an
+-- unsigned quotient less that multiple (`floor-moved`). Assumes nothing.
 use mathlib.Core.Logic.{_⊎_, inl, inr}
 use mathlib.Core.Path.{_≡_, sym, _∙_, ap}
-use Prim.Native.Nat.{ℕ, suc, _*_, _^_, _<_}
+use Prim.Native.Nat.{ℕ, suc, _*_, _/_, _^_, _<_}
 use native.Mathlib.Nat.{div-add-mod, mod-lt, div-le-self, mul-le-mul-left}
 use native.Mathlib.Omega.{arith}
-use lib.IntN.{ℤ, pos, negsuc, natAbs, _+ℤ_, _-ℤ_, _*ℤ_}
+use lib.IntN.{ℤ, pos, negsuc, natAbs, _+ℤ_, _-ℤ_, _*ℤ_, *ℤ-comm}
 use lib.Signed.{_≤ℤ_, _<ℤ_, quotZ, remZ, mag-rem}
 use mir.Facts.{toZ-ofZ}
 use mir.Syntax.{Width}
@@ -18,7 +19,7 @@ use Rattle.integers.proofs.Absolute.{abs-mul, abs-fits, fits-abs}
 use Rattle.integers.proofs.Parts.{of-lt}
 use Rattle.integers.proofs.Laws.{≤ℤ-or->ℤ}
 use Rattle.integers.proofs.Linear.{reify, show}
-use Rattle.integers.proofs.Division.{floor-unique, floor-multiple, modulo-equation}
+use Rattle.integers.proofs.Division.{floor-unique, floor-add, floor-multiple, modulo-equation}
 
 -- two numbers with the same bits, as after `if x == 0`: `same-bits w64 x (pos 0) (c .fits .x) (sfits-lit tt) (c .if1 .taken)`
 pub same-bits : (w : Width) (x y : ℤ) → SFits w x → SFits w y → ofZ w x ≡ ofZ w y → x ≡ y
@@ -135,3 +136,17 @@ floor-exact a (pos n) h = rw whole (multiple (floor a n))
         by-sign (inr k) =
             absurd (too-far (quotZ (pos n *ℤ q) (pos n)) (remZ (pos n *ℤ q) (pos n)) (quot-rem (pos n *ℤ q) (pos n))
             (floor-quotient-less (pos n *ℤ q) (pos n) h k ∙ floor-multiple q n n-above) (rem-below (pos n *ℤ q) (pos n) n-above))
+
+-- a number moved up by k times d to 0 or above: the unsigned quotient less k is the floor
+pub floor-moved : (a : ℤ) (d k : ℕ) → 0 < d → pos 0 ≤ℤ (a +ℤ pos k *ℤ pos d) → pos (natAbs (a +ℤ pos k *ℤ pos d) / d) -ℤ pos k ≡ floor a d
+floor-moved a d k h l = back (a +ℤ pos k *ℤ pos d) (floor a d) l (ap (λ (x : ℤ). floor x d) (swapped k d) ∙ floor-add a (pos k) d h)
+  where
+    swapped : (k d : ℕ) → a +ℤ pos k *ℤ pos d ≡ a +ℤ pos d *ℤ pos k
+    swapped k d = ap (λ (x : ℤ). a +ℤ x) (*ℤ-comm (pos k) (pos d))
+
+    less-k : (q f : ℤ) → q ≡ f +ℤ pos k → q -ℤ pos k ≡ f
+    less-k q f = show (simp reify tt) (omega arith)
+
+    back : (x f : ℤ) → pos 0 ≤ℤ x → floor x d ≡ f +ℤ pos k → pos (natAbs x / d) -ℤ pos k ≡ f
+    back (pos n) f l e = less-k (pos (n / d)) f e
+    back (negsuc n) f l e = absurd (l .le)

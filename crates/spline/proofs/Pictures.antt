@@ -1,15 +1,14 @@
 -- The two passes of a picture make its coefficients. In a buffer of raised pixels the rows are lines that can be filtered; they then hold the first
 -- pass of the definition, whose columns are lines that can be filtered too, and hold the second. A row y begins at y × w with step 1 and a column x
 -- at x with step w, so that place k of the one and of the other are the places y × w + k and k × w + x of the picture. Assumes nothing.
-use mathlib.Core.Bool.{Bool, true, false, _||_}
+use mathlib.Core.Bool.{false, _||_}
 use mathlib.Core.List.{List, _++_}
-use mathlib.Core.Path.{_≡_, refl, sym, ap, _∙_}
+use mathlib.Core.Path.{_≡_, sym, ap, _∙_}
 use Prim.Native.Nat.{ℕ, _+_, _*_, _/_, _%_, _^_, _≤_, _<_}
 use native.Mathlib.Nat.{mul-comm, mul-le-mul, mod-lt, div-add-mod', div-lt-iff-lt-mul}
 use native.Mathlib.Omega.{arith}
-use borrow.Author.Tests.{eqb-false, ltb-false}
 use lib.Arith.{digits-div, digits-mod}
-use lib.Dec.{eqb, ltb, lit<}
+use lib.Dec.{lit<}
 use lib.IntN.{ℤ, pos, _*ℤ_}
 use lib.ListN.{length, length-map, List·getD-append}
 use lib.Seq.{ext-getD}
@@ -24,22 +23,15 @@ use Rattle.spline.specs.Lines.{Lines, LinesFiltered}
 use Rattle.spline.specs.Rows.{Raised}
 use Rattle.spline.specs.Pictures.{GoodSides}
 use Rattle.spline.proofs.Rows.{raised-loaded, raised-small}
+use Rattle.bspline.proofs.Outcomes.{neither, one-to}
 
 -- ---- sides that are not refused
-good-side : (n : ℕ) → badSide n ≡ false → (0 < n) × (n ≤ 512)
-good-side n e =
-    let z : eqb n 0 ≡ false = first (eqb n 0) (ltb 512 n) e in
-    let l : ltb 512 n ≡ false = rw z at e in
-    (omega (arith, eqb-false n 0 z), ltb-false 512 n l)
-  where
-    first : (a b : Bool) → a || b ≡ false → a ≡ false
-    first true b f = f
-    first false b f = refl
-
-pub good-sides : (d : Shape) → badSide (d .width) ≡ false → badSide (d .height) ≡ false → GoodSides d
-good-sides d e f =
-    let w = good-side (d .width) e in
-    let h = good-side (d .height) f in
+pub good-sides : (d : Shape) → badSide (d .width) || badSide (d .height) ≡ false → GoodSides d
+good-sides d e =
+    let wide : badSide (d .width) ≡ false = neither (badSide (d .width)) (badSide (d .height)) e in
+    let high : badSide (d .height) ≡ false = rw wide at e in
+    let w = one-to 512 (d .width) wide in
+    let h = one-to 512 (d .height) high in
     record { wide = w .0; high = h .0; narrow = w .1; low = h .1 }
 
 -- so few pixels that their count fits

@@ -2,6 +2,8 @@
 use Prim.Native.Nat.{ℕ}
 use Rattle.bspline.specs.Outcomes.{Answer, count, value, refusal}
 use Rattle.bspline.specs.Tables as tables
+use Rattle.bspline.specs.Values as values
+use Rattle.spline.specs.declared.Position.{Position}
 use Rattle.spline.specs.declared.Refusal.{Refusal}
 use Rattle.spline.specs.declared.Refusal.the-variants.{EmptyRow, LongRow, BadSide, WrongCount, ShortWork, ShortCoefficients, BadFactor, OffData, ShortValues}
 use Rattle.spline.specs.declared.Shape.{Shape}
@@ -40,3 +42,7 @@ Promised (refusal k) P = Unit
 -- the picture that a struct describes
 abbrev pub described : Shape → tables.Shape
 described s = record { width = s .width; height = s .height }
+
+-- the position that a struct gives
+abbrev pub placed : Position → values.Position
+placed p = record { k = p .k; j = p .j }

@@ -3,3 +3,6 @@ pub mod Answers
 pub mod Lines
 pub mod Rows
 pub mod Pictures
+pub mod Positions
+pub mod Sums
+pub mod Zoom

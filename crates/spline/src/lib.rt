@@ -7,8 +7,11 @@ mod filter;
 mod lines;
 mod mirror;
 pub mod picture;
+mod positions;
 mod rounding;
 pub mod row;
+mod sums;
+mod zoom;
 
 // Why a call is refused. The number of each is in specs/Answers.antt.
 pub enum Refusal {
@@ -39,4 +42,10 @@ pub enum Valued {
 pub struct Shape {
     pub width: usize,
     pub height: usize,
+}
+
+// A position between the data of a row, or along one side of a picture: k + j / m, where the factor m is passed beside it.
+pub struct Position {
+    pub k: usize,
+    pub j: usize,
 }

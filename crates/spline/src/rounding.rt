@@ -1,11 +1,14 @@
-// Division of signed 64-bit numbers rounded down, and the roundings to nearest that are made of it. The rule for a tie stands in `round_div`.
+// Division of signed 64-bit numbers rounded down, and the roundings to nearest that are made of it. The rule for a tie stands in `before_floor`.
 ghost use mathlib.Core.Path.{_≡_};
-ghost use Prim.Native.Nat.{_+_, _*_, _≤_, _^_};
+ghost use Prim.Native.Nat.{_+_, _*_, _≤_, _<_, _^_};
 ghost use lib.IntN.{pos, natAbs};
-ghost use lib.Signed.{_<ℤ_};
+ghost use lib.Signed.{_<ℤ_, _≤ℤ_};
 ghost use Rattle.integers.specs.Division.{floor, modulo};
 ghost use Rattle.integers.specs.Rounding.{round};
 ghost use Rattle.bspline.specs.Recursions.{R, coefficient};
+
+// No value is farther from 0, whatever the coefficients are: 2^27.
+const GREATEST_VALUE: i64 = 134217728;
 
 // a modulo d, from 0 up, for d above 0. The machine's `%` has the sign of a, so a negative remainder takes d more.
 fn modulo(a: i64, d: i64) -> i64
@@ -25,12 +28,20 @@ fn floor_div(a: i64, d: i64) -> i64
     (a - modulo(a, d)) / d
 }
 
-// a / d rounded to the nearest whole number, a tie going up.
+// What rounded down after division by d is a / d rounded to the nearest whole number, a tie going up.
+fn before_floor(a: i64, d: i64) -> i64
+    requires { ⌜ (pos 0 <ℤ d) × (natAbs a + 2 * natAbs d ≤ 2 ^ 63) ⌝ }
+    ensures { λ r. ⌜ (floor r (natAbs d) ≡ round a (natAbs d)) × (a ≤ℤ r) × (natAbs r ≤ natAbs a + natAbs d) ⌝ }
+{
+    a + d / 2
+}
+
+// a / d rounded to the nearest whole number.
 pub(crate) fn round_div(a: i64, d: i64) -> i64
     requires { ⌜ (pos 0 <ℤ d) × (natAbs a + 2 * natAbs d ≤ 2 ^ 63) ⌝ }
     ensures { λ r. ⌜ r ≡ round a (natAbs d) ⌝ }
 {
-    floor_div(a + d / 2, d)
+    floor_div(before_floor(a, d), d)
 }
 
 // R(a): a / 2^31 rounded to nearest.
@@ -47,4 +58,50 @@ pub(crate) fn coefficient_of(b: i64) -> i32
     ensures { λ r. ⌜ r ≡ coefficient b ⌝ }
 {
     round_div(6 * b, 16) as i32
+}
+
+// a / d rounded to nearest, for a at most GREATEST_VALUE × d from 0. Moved up by that much the dividend is not negative, and the division of an
+// unsigned number by a constant is one product and a shift.
+fn round_small(a: i64, d: i64) -> i32
+    requires { ⌜ (pos 0 <ℤ d) × (natAbs d ≤ 2 ^ 20) × (natAbs a ≤ 2 ^ 27 * natAbs d) ⌝ }
+    ensures { λ r. ⌜ r ≡ round a (natAbs d) ⌝ }
+{
+    let moved = before_floor(a, d) + GREATEST_VALUE * d;
+    let quotient = (moved as u64) / (d as u64);
+    (quotient as i64 - GREATEST_VALUE) as i32
+}
+
+// The row value of a weighted sum at factor m, which is at most that of the greatest coefficients. Each factor has its constant divisor.
+pub(crate) fn row_value_of(sum: i64, m: usize) -> i32
+    requires { ⌜ (0 < m) × (m ≤ 16) × (natAbs sum ≤ 6 * m ^ 3 * 2 ^ 31) ⌝ }
+    ensures { λ r. ⌜ r ≡ round sum (96 * m ^ 3) ⌝ }
+{
+    match m {
+        1 => round_small(sum, 96),
+        2 => round_small(sum, 768),
+        3 => round_small(sum, 2592),
+        4 => round_small(sum, 6144),
+        5 => round_small(sum, 12000),
+        6 => round_small(sum, 20736),
+        7 => round_small(sum, 32928),
+        8 => round_small(sum, 49152),
+        9 => round_small(sum, 69984),
+        10 => round_small(sum, 96000),
+        11 => round_small(sum, 127776),
+        12 => round_small(sum, 165888),
+        13 => round_small(sum, 210912),
+        14 => round_small(sum, 263424),
+        15 => round_small(sum, 324000),
+        _ => round_small(sum, 393216),
+    }
+}
+
+// The picture value of a weighted sum at factor m.
+pub(crate) fn picture_value_of(sum: i64, m: usize) -> i32
+    requires { ⌜ (0 < m) × (m ≤ 16) × (natAbs sum ≤ 36 * m ^ 6 * 2 ^ 31) ⌝ }
+    ensures { λ r. ⌜ r ≡ round sum (576 * m ^ 6) ⌝ }
+{
+    let factor = m as i64;
+    let cube = factor * factor * factor;
+    round_div(sum, 576 * (cube * cube)) as i32
 }

@@ -1,6 +1,6 @@
 -- `spline::picture::transform` meets its contract: each refusal is the first test that holds, and where none does the parts of the two buffers that
 -- the filter is lent become the picture's coefficients and zeros. The sides' product is made of sides up to 512. Assumes nothing.
-use mathlib.Core.Bool.{false}
+use mathlib.Core.Bool.{false, _||_}
 use mathlib.Core.Path.{_≡_, sym, ap, _∙_}
 use Prim.Native.Nat.{_+_, _*_}
 use native.Mathlib.Omega.{arith}
@@ -19,49 +19,33 @@ use Rattle.spline.proofs.Pictures.{good-sides, area-small, picture-leng
 use Rattle.spline.proofs.picture.transform.Statement.{statement}
 use Rattle.spline.proofs.picture.transform.Tie as tie
 
-bad-side-requires : tie.Need-bad-side-requires
-bad-side-requires c κs = search needs
+bad-sides-requires : tie.Need-bad-sides-requires
+bad-sides-requires c κs = search needs
 
 returns : tie.Need-returns
 unfolding pictureTransform
-returns c = (simp (sym (c .before .bad-side .ensures) ∙ c .if1 .taken), tt)
-
-bad-side-requires-2 : tie.Need-bad-side-requires-2
-bad-side-requires-2 c κs = search needs
-
-returns-2 : tie.Need-returns-2
-unfolding pictureTransform
-returns-2 c = (
-  simp (
-    sym (c .before .before .before .bad-side .ensures) ∙ c .before .before .if1 .left,
-    sym (c .before .bad-side2 .ensures) ∙ c .if2 .taken,
-  ),
-  tt,
-)
+returns c = (simp (sym (c .before .bad-sides .ensures) ∙ c .if1 .taken), tt)
 
 -- neither side is bad
-module _ (c : tie.Else2) where
+module _ (c : tie.Else1) where
   abbrev start : tie.Start
-  start = c .before .before .before .before
+  start = c .before .before
 
   abbrev d : Shape
   d = described (start .args .shape)
 
-  wide : badSide (d .width) ≡ false
-  wide = sym (c .before .before .before .bad-side .ensures) ∙ c .before .before .if1 .left
-
-  high : badSide (d .height) ≡ false
-  high = sym (c .before .bad-side2 .ensures) ∙ c .if2 .left
+  sides : badSide (d .width) || badSide (d .height) ≡ false
+  sides = sym (c .before .bad-sides .ensures) ∙ c .if1 .left
 
   good : GoodSides d
-  good = good-sides d wide high
+  good = good-sides d sides
 
 mul-area : tie.Need-mul-area
 mul-area c = omega (arith, area-small (d c) (good c))
 
-returns-3 : tie.Need-returns-3
+returns-2 : tie.Need-returns-2
 unfolding pictureTransform
-returns-3 c = (simp (wide (c .before), high (c .before), ne-eqb _ _ (c .if3 .taken)), tt)
+returns-2 c = (simp (sides (c .before), ne-eqb _ _ (c .if2 .taken)), tt)
 
 longer-requires : tie.Need-longer-requires
 longer-requires c κs = search needs
@@ -69,23 +53,22 @@ longer-requires c κs = search needs
 add-words : tie.Need-add-words
 add-words c = omega (arith, c .longer .ensures, good (c .before .before) .narrow, good (c .before .before) .low)
 
+returns-3 : tie.Need-returns-3
+unfolding pictureTransform
+returns-3 c =
+    let s = c .before .before .before in
+    (simp (sides s, eq-eqb _ _ (c .before .before .if2 .left), sym (c .before .longer .ensures), lt-ltb _ _ (c .if3 .taken)), tt)
+
 returns-4 : tie.Need-returns-4
 unfolding pictureTransform
 returns-4 c =
-    let s = c .before .before .before in
-    (simp (wide s, high s, eq-eqb _ _ (c .before .before .if3 .left), sym (c .before .longer .ensures), lt-ltb _ _ (c .if4 .taken)), tt)
-
-returns-5 : tie.Need-returns-5
-unfolding pictureTransform
-returns-5 c =
     let s = c .before .before .before .before in (
       simp (
-        wide s,
-        high s,
-        eq-eqb _ _ (c .before .before .before .if3 .left),
+        sides s,
+        eq-eqb _ _ (c .before .before .before .if2 .left),
         sym (c .before .before .longer .ensures),
-        le-ltb _ _ (c .before .if4 .left),
-        lt-ltb _ _ (c .if5 .taken),
+        le-ltb _ _ (c .before .if3 .left),
+        lt-ltb _ _ (c .if4 .taken),
       ),
       tt,
     )
@@ -108,7 +91,7 @@ filter-picture-requires c κs =
     let s = t .before .before in
     record {
       good = good s;
-      pixels = t .before .if3 .left;
+      pixels = t .before .if2 .left;
       coefficients = length-take-le _ _ (search needs);
       words = length-take-le _ _ (search needs) ∙ ap (λ n. n + 2 * margin) (t .longer .ensures);
     }
@@ -119,9 +102,9 @@ same-length c = search needs
 same-length-2 : tie.Need-same-length-2
 same-length-2 c = search needs
 
-returns-6 : tie.Need-returns-6
+returns-5 : tie.Need-returns-5
 unfolding pictureTransform
-returns-6 c =
+returns-5 c =
     let f = c .before .before in
     let u = f .before .before .before in
     let t = u .before .before in
@@ -130,12 +113,11 @@ returns-6 c =
     let rest = drop (area (d s)) (start s .args .coefficients .now) in
     let filtered = f .filter-picture .ensures in (
       simp (
-        wide s,
-        high s,
-        eq-eqb _ _ (t .before .if3 .left),
+        sides s,
+        eq-eqb _ _ (t .before .if2 .left),
         sym (t .longer .ensures),
-        le-ltb _ _ (u .before .if4 .left),
-        le-ltb _ _ (u .if5 .left),
+        le-ltb _ _ (u .before .if3 .left),
+        le-ltb _ _ (u .if4 .left),
         filtered .coefficients,
         filtered .cleared,
         picture-length,
@@ -150,16 +132,14 @@ pub transform-spec : {M : Type 1} → statement M
 transform-spec =
     tie.close
     (tie.spec
-    bad-side-requires
+    bad-sides-requires
     returns
-    bad-side-requires-2
-    returns-2
     mul-area
-    returns-3
+    returns-2
     longer-requires
     add-words
+    returns-3
     returns-4
-    returns-5
     slice-relend-prefix-filter-picture
     slice-aggregate-filter-picture
     slice-relend-prefix-filter-picture-2
@@ -167,4 +147,4 @@ transform-spec =
     filter-picture-requires
     same-length
     same-length-2
-    returns-6)
+    returns-5)

@@ -1,0 +1,219 @@
+-- The four weights of "Values between samples", and the weighted sums of a row and of a picture. For j ≤ m the weights are natural numbers, which
+-- add up to 6m³. So a weighted sum of numbers within B is within 6m³ × B, and the weighted sums of two rows that differ by at most B
+-- differ by at most 6m³ × B. A picture's sum is the sum along a column of sums along rows, so there the factor is 6m³ × 6m³ = 36m⁶.
+-- At a sample, j = 0, a row's sum is m³ times the 1-4-1 sum. Assumes nothing.
+use mathlib.Core.List.{List, [], _∷_, map, foldr}
+use mathlib.Core.Path.{_≡_, refl, sym, ap, ap₂, subst, _∙_}
+use Prim.Native.Nat.{ℕ, suc, _+_, _-_, _*_, _^_, _≤_, _<_}
+use native.Mathlib.Nat.{pow-zero, pow-suc, mul-le-mul-left, add-sub-of-le}
+use native.Mathlib.Omega.{arith}
+use lib.IntN.{ℤ, pos, natAbs, _+ℤ_, _-ℤ_, _*ℤ_}
+use lib.ListN.{length}
+use Rattle.integers.proofs.Absolute.{abs-add, abs-mul, abs-zero}
+use Rattle.integers.proofs.Laws.{diff-zero, zero-diff}
+use Rattle.integers.proofs.Linear.{reify, show}
+use Rattle.integers.proofs.Ring.{polys, ring}
+use Rattle.bspline.specs.Exact.{tridiagonal}
+use Rattle.bspline.specs.Mirror.{mirror}
+use Rattle.bspline.specs.Tables.{tabulate, Shape}
+use Rattle.bspline.specs.Values.{Position, cube, weights, support, dot, rowSum, pictureSum}
+use Rattle.bspline.proofs.Mirror.{mirror-below}
+
+-- ---- powers
+-- a square as a product, which `omega` reads
+pub squared : (a : ℕ) → a ^ 2 ≡ a * a
+squared a = simp (pow-suc a 1, pow-suc a 0, pow-zero a) (omega arith)
+
+-- a cube as a product
+pub cubed : (a : ℕ) → a ^ 3 ≡ a * a * a
+cubed a = pow-suc a 2 ∙ ap (λ b. b * a) (squared a)
+
+-- a sixth power as the product of two cubes
+pub sixth : (a : ℕ) → a ^ 6 ≡ a ^ 3 * a ^ 3
+sixth a = simp (pow-suc a 5, pow-suc a 4, pow-suc a 3) (simp cubed (omega arith))
+
+-- ---- the weights
+-- the weights of j / m as natural numbers, by j and d = m - j
+abbrev pub natural-weights : ℕ → ℕ → List ℕ
+natural-weights j d =
+    d ^ 3
+    ∷ (4 * d ^ 3 + 12 * d ^ 2 * j + 6 * d * j ^ 2 + j ^ 3)
+    ∷ (d ^ 3 + 6 * d ^ 2 * j + 12 * d * j ^ 2 + 4 * j ^ 3)
+    ∷ j ^ 3
+    ∷ []
+
+-- the sum of the numbers of a list
+abbrev pub total : List ℕ → ℕ
+total = foldr _+_ 0
+
+-- no weight is negative: they are these natural numbers, as multiplying out with m = j + d shows
+pub weights-natural : (m j : ℕ) → j ≤ m → weights m j ≡ map pos (natural-weights j (m - j))
+unfolding weights
+weights-natural m j l = subst (λ m′. weights m′ j ≡ map pos (natural-weights j (m - j))) (add-sub-of-le l) (expanded (m - j))
+  where
+    -- the first three weights of m = j + d, multiplied out; the fourth is j³ by definition
+    first : (d : ℕ) → cube (pos (j + d) -ℤ pos j) ≡ pos (d ^ 3)
+    first d = simp cubed (show (simp reify tt) (omega arith))
+
+    second : (d : ℕ) → pos (3 * j ^ 3) -ℤ pos (6 * j ^ 2 * (j + d)) +ℤ pos (4 * (j + d) ^ 3) ≡ pos (4 * d ^ 3 + 12 * d ^ 2 * j + 6 * d * j ^ 2 + j ^ 3)
+    second d = simp (squared, cubed) (show (simp reify tt) (omega arith))
+
+    third : (d : ℕ) →
+        pos (3 * j ^ 2 * (j + d) + 3 * j * (j + d) ^ 2 + (j + d) ^ 3) -ℤ pos (3 * j ^ 3) ≡ pos (d ^ 3 + 6 * d ^ 2 * j + 12 * d * j ^ 2 + 4 * j ^ 3)
+    third d = simp (squared, cubed) (show (simp reify tt) (omega arith))
+
+    expanded : (d : ℕ) → weights (j + d) j ≡ map pos (natural-weights j d)
+    expanded d = ap₂ _∷_ (first d) (ap₂ _∷_ (second d) (ap₂ _∷_ (third d) refl))
+
+-- they add up to 6m³
+pub weights-total : (m j : ℕ) → j ≤ m → total (natural-weights j (m - j)) ≡ 6 * m ^ 3
+weights-total m j l = added (m - j) ∙ ap (λ m. 6 * m ^ 3) (add-sub-of-le l)
+  where
+    added : (d : ℕ) → total (natural-weights j d) ≡ 6 * (j + d) ^ 3
+    added d = simp (squared, cubed) (omega arith)
+
+-- ---- weighted sums
+module _ (D X : ℕ) where
+  -- D × a - X × b is at most B in size
+  abbrev Apart : ℕ → ℤ → ℤ → Type 0
+  Apart B a b = natAbs (pos D *ℤ a -ℤ pos X *ℤ b) ≤ B
+
+  -- two sums without products
+  no-more : (B : ℕ) → Apart (0 * B) (pos 0) (pos 0)
+  no-more B = show (simp reify tt) (omega arith)
+
+  -- one product more: its own distance and that of the rest add up
+  one-more : (B u S : ℕ) (x y s t : ℤ) → Apart B x y → Apart (S * B) s t → Apart ((u + S) * B) (pos u *ℤ x +ℤ s) (pos u *ℤ y +ℤ t)
+  one-more B u S x y s t h g =
+      rw (split (pos D) (pos X) (pos u) x y s t)
+      (omega (arith, abs-add (pos u *ℤ a) b, abs-mul (pos u) a, mul-le-mul-left u h))
+    where
+      -- the distance of the one
+      a : ℤ
+      a = pos D *ℤ x -ℤ pos X *ℤ y
+
+      -- the distance of the rest
+      b : ℤ
+      b = pos D *ℤ s -ℤ pos X *ℤ t
+
+      split : (D X u x y s t : ℤ) → D *ℤ (u *ℤ x +ℤ s) -ℤ X *ℤ (u *ℤ y +ℤ t) ≡ u *ℤ (D *ℤ x -ℤ X *ℤ y) +ℤ (D *ℤ s -ℤ X *ℤ t)
+      split D X u x y s t = ring (D ∷ X ∷ u ∷ x ∷ y ∷ s ∷ t ∷ []) (simp polys tt) tt
+
+  -- the sums of two tables with the same weights, which are natural numbers: at most as far apart as the numbers, times the sum of the weights
+  dot-near : (B : ℕ) (f g : ℕ → ℤ) → ((i : ℕ) → Apart B (f i) (g i)) → (u : List ℕ) (a : ℕ) →
+      Apart (total u * B) (dot (map pos u) (tabulate f a (length u))) (dot (map pos u) (tabulate g a (length u)))
+  unfolding tabulate
+  dot-near B f g h [] a = no-more B
+  dot-near B f g h (v ∷ u) a = one-more B v (total u) (f a) (g a) _ _ (h a) (dot-near B f g h u (suc a))
+
+-- the weighted sums of two rows of n numbers: where D × f and X × g are at most B apart, the sums are at most 6m³ × B apart
+pub sum-near : (m n : ℕ) (p : Position) → p .j ≤ m → 0 < n → (f g : ℕ → ℤ) (D X B : ℕ) →
+    ((i : ℕ) → i < n → natAbs (pos D *ℤ f i -ℤ pos X *ℤ g i) ≤ B) → natAbs (pos D *ℤ rowSum m n f p -ℤ pos X *ℤ rowSum m n g p) ≤ 6 * m ^ 3 * B
+unfolding rowSum
+sum-near m n p l some f g D X B h =
+    rw (weights-natural m (p .j) l, sym (weights-total m (p .j) l))
+    (dot-near D X B (read f) (read g) (λ i. h _ (mirror-below n (pos (p .k + i) -ℤ pos 1) some)) (natural-weights (p .j) (m - p .j)) 0)
+  where
+    -- what stands in the i-th of the four places
+    read : (ℕ → ℤ) → ℕ → ℤ
+    read c i = c (mirror n (pos (p .k + i) -ℤ pos 1))
+
+-- the same for two pictures, by the law of rows along each row and then along the column of their sums
+pub picture-sum-near : (m : ℕ) (d : Shape) (px py : Position) → px .j ≤ m → py .j ≤ m → 0 < d .width → 0 < d .height →
+    (f g : ℕ → ℕ → ℤ) (D X B : ℕ) → ((x y : ℕ) → x < d .width → y < d .height → natAbs (pos D *ℤ f x y -ℤ pos X *ℤ g x y) ≤ B) →
+    natAbs (pos D *ℤ pictureSum m d f px py -ℤ pos X *ℤ pictureSum m d g px py) ≤ 36 * m ^ 6 * B
+unfolding pictureSum
+picture-sum-near m d px py lx ly wide high f g D X B h =
+    omega (
+      arith,
+      ap (λ v. v * B) (sixth m),
+      sum-near m (d .height) py ly high (along f) (along g) D X (6 * m ^ 3 * B)
+          (λ y u. sum-near m (d .width) px lx wide (λ x. f x y) (λ x. g x y) D X B (λ x v. h x y v u)),
+    )
+  where
+    -- the sum along row y
+    along : (ℕ → ℕ → ℤ) → ℕ → ℤ
+    along c y = rowSum m (d .width) (λ x. c x y) px
+
+-- one number alone, as a distance from 0 times another
+alone : (x y : ℤ) → pos 1 *ℤ x -ℤ pos 0 *ℤ y ≡ x
+alone x y = show (simp reify tt) (omega arith)
+
+-- the weighted sum of a row of n numbers that are within B is within 6m³ × B
+pub sum-within : (m n : ℕ) (p : Position) → p .j ≤ m → 0 < n → (f : ℕ → ℤ) (B : ℕ) → ((i : ℕ) → i < n → natAbs (f i) ≤ B) →
+    natAbs (rowSum m n f p) ≤ 6 * m ^ 3 * B
+sum-within m n p l some f B h =
+    rw (alone (rowSum m n f p) (rowSum m n f p)) at (sum-near m n p l some f f 1 0 B (λ i u. rw (alone (f i) (f i)) (h i u)))
+
+-- the weighted sum of a picture of numbers that are within B is within 36m⁶ × B
+pub picture-sum-within : (m : ℕ) (d : Shape) (px py : Position) → px .j ≤ m → py .j ≤ m → 0 < d .width → 0 < d .height →
+    (f : ℕ → ℕ → ℤ) (B : ℕ) → ((x y : ℕ) → x < d .width → y < d .height → natAbs (f x y) ≤ B) → natAbs (pictureSum m d f px py) ≤ 36 * m ^ 6 * B
+picture-sum-within m d px py lx ly wide high f B h =
+    rw (alone (pictureSum m d f px py) (pictureSum m d f px py)) at
+    (picture-sum-near m d px py lx ly wide high f f 1 0 B (λ x y u v. rw (alone (f x y) (f x y)) (h x y u v)))
+
+-- rows that are equal up to the factors D and X have sums that are: the distance 0
+pub sum-same : (m n : ℕ) (p : Position) → p .j ≤ m → 0 < n → (f g : ℕ → ℤ) (D X : ℕ) → ((i : ℕ) → i < n → pos D *ℤ f i ≡ pos X *ℤ g i) →
+    pos D *ℤ rowSum m n f p ≡ pos X *ℤ rowSum m n g p
+sum-same m n p l some f g D X h =
+    diff-zero (abs-zero (omega (arith, sum-near m n p l some f g D X 0 (λ i u. rw (zero-diff (h i u)) (omega arith)))))
+
+-- ---- at a sample
+-- the weights where j = 0
+weights-at-sample : (m : ℕ) → weights m 0 ≡ map pos (m ^ 3 ∷ 4 * m ^ 3 ∷ m ^ 3 ∷ 0 ∷ [])
+unfolding weights
+weights-at-sample m = ap₂ _∷_ (simp cubed (show (simp reify tt) (omega arith))) (ap₂ _∷_ second (ap₂ _∷_ third refl))
+  where
+    second : pos (3 * 0 ^ 3) -ℤ pos (6 * 0 ^ 2 * m) +ℤ pos (4 * m ^ 3) ≡ pos (4 * m ^ 3)
+    second = show (simp reify tt) (omega arith)
+
+    third : pos (3 * 0 ^ 2 * m + 3 * 0 * m ^ 2 + m ^ 3) -ℤ pos (3 * 0 ^ 3) ≡ pos (m ^ 3)
+    third = show (simp reify tt) (omega arith)
+
+-- the sum where j = 0 is m³ times the 1-4-1 sum
+pub sum-at-sample : (m n : ℕ) (c : ℕ → ℤ) (k : ℕ) → rowSum m n c (record { k = k; j = 0 }) ≡ pos (m ^ 3) *ℤ tridiagonal n c (pos k)
+unfolding rowSum tridiagonal tabulate
+sum-at-sample m n c k =
+    ap (λ w. dot w (support n c k)) (weights-at-sample m)
+    ∙ collected (pos (m ^ 3)) (read 0) (read 1) (read 2) (read 3)
+    ∙ ap (λ z. pos (m ^ 3) *ℤ z) (ap₂ _+ℤ_ (ap₂ _+ℤ_ (same 0 before) (ap (λ z. pos 4 *ℤ z) (same 1 own))) (same 2 after))
+  where
+    -- what stands in the i-th of the four places
+    read : ℕ → ℤ
+    read i = c (mirror n (pos (k + i) -ℤ pos 1))
+
+    -- the common factor taken out, and the fourth number, whose weight is 0, left out
+    collected : (a x y z t : ℤ) → a *ℤ x +ℤ (pos 4 *ℤ a *ℤ y +ℤ (a *ℤ z +ℤ (pos 0 *ℤ t +ℤ pos 0))) ≡ a *ℤ (x +ℤ pos 4 *ℤ y +ℤ z)
+    collected a x y z t = ring (a ∷ x ∷ y ∷ z ∷ t ∷ []) (simp polys tt) tt
+
+    -- the places are those of the 1-4-1 sum
+    same : (i : ℕ) {l : ℤ} → pos (k + i) -ℤ pos 1 ≡ l → read i ≡ c (mirror n l)
+    same i e = ap (λ l. c (mirror n l)) e
+
+    before : pos (k + 0) -ℤ pos 1 ≡ pos k -ℤ pos 1
+    before = show (simp reify tt) (omega arith)
+
+    own : pos (k + 1) -ℤ pos 1 ≡ pos k
+    own = show (simp reify tt) (omega arith)
+
+    after : pos (k + 2) -ℤ pos 1 ≡ pos k +ℤ pos 1
+    after = show (simp reify tt) (omega arith)
+
+-- at a sample of a picture the sum along columns of sums along rows is the sum along rows of sums along columns: both have the same nine products
+pub sums-exchanged : (m w h : ℕ) (c : ℕ → ℕ → ℤ) (x y : ℕ) →
+    rowSum m h (λ l. rowSum m w (λ k. c k l) (record { k = x; j = 0 })) (record { k = y; j = 0 }) ≡
+    rowSum m w (λ k. rowSum m h (λ l. c k l) (record { k = y; j = 0 })) (record { k = x; j = 0 })
+unfolding tridiagonal
+sums-exchanged m w h c x y =
+    simp sum-at-sample
+    (nine (pos (m ^ 3)) (mirror w (pos x -ℤ pos 1)) (mirror w (pos x)) (mirror w (pos x +ℤ pos 1))
+    (mirror h (pos y -ℤ pos 1)) (mirror h (pos y)) (mirror h (pos y +ℤ pos 1)))
+  where
+    -- the 1-4-1 sum by its three places
+    three : (i j k : ℕ) → (ℕ → ℤ) → ℤ
+    three i j k f = f i +ℤ pos 4 *ℤ f j +ℤ f k
+
+    -- nine products on each side
+    nine : (M : ℤ) (i j k r s t : ℕ) → M *ℤ three r s t (λ l. M *ℤ three i j k (λ k. c k l)) ≡ M *ℤ three i j k (λ k. M *ℤ three r s t (λ l. c k l))
+    nine M i j k r s t =
+        ring (M ∷ c i r ∷ c i s ∷ c i t ∷ c j r ∷ c j s ∷ c j t ∷ c k r ∷ c k s ∷ c k t ∷ []) (simp polys tt) tt

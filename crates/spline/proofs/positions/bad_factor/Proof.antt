@@ -1,0 +1,13 @@
+-- `spline::positions::bad_factor` meets its contract: the two tests are those of the definition. Assumes nothing.
+use borrow.Author.Tests.{eq-eqb, ne-eqb}
+use Rattle.spline.proofs.positions.bad_factor.Statement.{statement}
+use Rattle.spline.proofs.positions.bad_factor.Tie as tie
+
+returns : tie.Need-returns
+returns c = simp (eq-eqb _ _ (c .if1 .taken))
+
+returns-2 : tie.Need-returns-2
+returns-2 c = simp (ne-eqb _ _ (c .if1 .left))
+
+pub bad-factor-spec : {M : Type 1} → statement M
+bad-factor-spec = tie.close (tie.spec returns returns-2)

@@ -1,0 +1,1 @@
+"""What the outside tests of the library share."""

@@ -1,0 +1,167 @@
+"""The operations in whole numbers and fractions, written from docs/SPECIFICATION.md alone: transforms and values to the last bit, the exact
+solution of the mirrored equations and the exact spline for the distances, and the refusals by lengths and sides."""
+from fractions import Fraction
+from functools import lru_cache
+
+POLE = 575416509  # Z
+MARGIN = 24
+LONGEST_ROW = 4096
+LONGEST_SIDE = 512
+LARGEST_FACTOR = 16
+
+
+def nearest(numerator, denominator):
+    """The whole number nearest to the fraction, a tie going up; R(a) is nearest(a, 2 ** 31)."""
+    return (2 * numerator + denominator) // (2 * denominator)
+
+
+def mirrored(index, n):
+    """The place that an index reads in a row of n."""
+    if n == 1:
+        return 0
+    index %= 2 * (n - 1)
+    return 2 * (n - 1) - index if index > n - 1 else index
+
+
+# ----- Transforms -----
+
+
+def recursions(t):
+    """Both recursions over one line of internal numbers, and the coefficients."""
+    n = len(t)
+    p = {-MARGIN - 1: 0}
+    for k in range(-MARGIN, n + MARGIN):
+        p[k] = t[mirrored(k, n)] - nearest(POLE * p[k - 1], 2**31)
+    b = {n + MARGIN: 0}
+    for k in range(n + MARGIN - 1, -MARGIN - 1, -1):
+        b[k] = nearest(POLE * (p[k] - b[k + 1]), 2**31)
+    return p, b, [nearest(6 * b[k], 16) for k in range(n)]
+
+
+def row_coefficients(samples):
+    return recursions([65536 * sample for sample in samples])[2]
+
+
+def by_rows_then_columns(line_of_row, line_of_column, numbers, width):
+    """A picture, row after row, with one function applied to each row and then another to each column of the result."""
+    rows = [line_of_row(numbers[start : start + width]) for start in range(0, len(numbers), width)]
+    columns = [line_of_column(list(column)) for column in zip(*rows)]
+    return [number for row in zip(*columns) for number in row]
+
+
+def picture_coefficients(pixels, width):
+    return by_rows_then_columns(row_coefficients, lambda column: recursions([16 * c for c in column])[2], pixels, width)
+
+
+# ----- The exact solution -----
+
+
+def exact_row(samples):
+    """The exact solution of a row of whole numbers: whole numbers over one common denominator, which depends on the length alone.
+
+    The last number is left open and the equations are followed to the left, so that each number is particular + factor * last; the equation at
+    0 then gives the last number. The solution is put into every equation before it is used.
+    """
+    n = len(samples)
+    if n == 1:
+        return [samples[0]], 1
+    particular = [0] * n
+    factor = [0] * n
+    factor[n - 1] = 1
+    particular[n - 2] = 3 * samples[n - 1]
+    factor[n - 2] = -2
+    for k in range(n - 2, 0, -1):
+        particular[k - 1] = 6 * samples[k] - 4 * particular[k] - particular[k + 1]
+        factor[k - 1] = -4 * factor[k] - factor[k + 1]
+    last = 6 * samples[0] - 4 * particular[0] - 2 * particular[1]
+    denominator = 4 * factor[0] + 2 * factor[1]
+    if denominator < 0:
+        last, denominator = -last, -denominator
+    numerators = [0] * n
+    numerators[n - 1] = last
+    numerators[n - 2] = 3 * samples[n - 1] * denominator - 2 * last
+    for k in range(n - 2, 0, -1):
+        numerators[k - 1] = 6 * samples[k] * denominator - 4 * numerators[k] - numerators[k + 1]
+    for k in range(n):
+        left, right = numerators[mirrored(k - 1, n)], numerators[mirrored(k + 1, n)]
+        if left + 4 * numerators[k] + right != 6 * samples[k] * denominator:
+            raise AssertionError(f"the exact solution of a row of {n} does not solve its equation {k}")
+    return numerators, denominator
+
+
+def exact_picture(pixels, width):
+    """The exact solution of a picture: the columns of the numerators of the rows, over the product of the two denominators."""
+    height = len(pixels) // width
+    denominator = exact_row([0] * width)[1] * exact_row([0] * height)[1]
+    return by_rows_then_columns(lambda row: exact_row(row)[0], lambda column: exact_row(column)[0], pixels, width), denominator
+
+
+def as_fractions(exact):
+    numerators, denominator = exact
+    return [Fraction(numerator, denominator) for numerator in numerators]
+
+
+def greatest_distance(scale, numerators, denominator, found):
+    """The greatest distance of what was found to so many times the exact fractions, and its place."""
+    distances = [abs(scale * numerator - number * denominator) for numerator, number in zip(numerators, found)]
+    place = max(range(len(distances)), key=distances.__getitem__)
+    return Fraction(distances[place], denominator), place
+
+
+# ----- Values between samples -----
+
+
+def weights(j, m):
+    return (m - j) ** 3, 3 * j**3 - 6 * j**2 * m + 4 * m**3, -3 * j**3 + 3 * j**2 * m + 3 * j * m**2 + m**3, j**3
+
+
+@lru_cache(maxsize=2**17)
+def terms(k, j, m, n):
+    """Each weight at k + j/m that is not 0, and the place of a row of n that it falls on."""
+    return [(weight, mirrored(k - 1 + i, n)) for i, weight in enumerate(weights(j, m)) if weight != 0]
+
+
+def row_sum(numbers, k, j, m):
+    """6m³ times the spline with these coefficients at k + j/m. The coefficients may be the library's or numerators of the exact solution."""
+    return sum(weight * numbers[place] for weight, place in terms(k, j, m, len(numbers)))
+
+
+def row_value(coefficients, k, j, m):
+    return nearest(row_sum(coefficients, k, j, m), 96 * m**3)
+
+
+def row_positions(n, m):
+    """The positions of a zoom, each as its k and j."""
+    return [divmod(i, m) for i in range((n - 1) * m + 1)]
+
+
+def row_values(coefficients, m):
+    return [row_value(coefficients, k, j, m) for k, j in row_positions(len(coefficients), m)]
+
+
+def picture_sum(numbers, width, x, y, m):
+    """36m⁶ times the spline with these coefficients at x and y, each a pair of k and j."""
+    across = terms(*x, m, width)
+    down = terms(*y, m, len(numbers) // width)
+    return sum(u * v * numbers[width * row + column] for v, row in down for u, column in across)
+
+
+def picture_value(coefficients, width, x, y, m):
+    return nearest(picture_sum(coefficients, width, x, y, m), 576 * m**6)
+
+
+# ----- Refusals by lengths and sides -----
+
+
+def length_refusal(n):
+    """The refusal of a row of n, or None."""
+    if n == 0:
+        return 1
+    return 2 if n > LONGEST_ROW else None
+
+
+def sides_refusal(count, width, height):
+    """The refusal of a picture of these sides whose slice holds so many numbers, or None."""
+    if not (1 <= width <= LONGEST_SIDE and 1 <= height <= LONGEST_SIDE):
+        return 3
+    return 4 if count != width * height else None

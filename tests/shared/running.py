@@ -1,0 +1,235 @@
+"""How an outside test lends buffers, calls the library and counts its groups.
+
+The library is the crate exports, built by the kit and linked into a shared library. A group of comparisons counts as one test and runs in a
+process of its own, so that a crash or a call that never returns fails that group only.
+"""
+import argparse
+import ctypes
+import mmap
+import os
+import random
+import shutil
+import signal
+import subprocess
+import sys
+import tempfile
+import time
+import traceback
+from fractions import Fraction
+
+SECONDS_FOR_A_GROUP = 60
+
+SLICE = [ctypes.c_void_p, ctypes.c_size_t]
+SIZE = [ctypes.c_size_t]
+
+# The parameters of each exported function, which is spline_ and this name. Every one returns 64 bits.
+PARAMETERS = {
+    "row_transform": 3 * SLICE,
+    "picture_transform": SLICE + 2 * SIZE + 2 * SLICE,
+    "row_value": SLICE + 3 * SIZE,
+    "row_zoom": SLICE + SIZE + SLICE,
+    "picture_value": SLICE + 7 * SIZE,
+}
+
+
+class Wrong(Exception):
+    """A result that is not as specified."""
+
+
+class Slice:
+    """A lent slice between two guards: the numbers before it and after it belong to nobody and must not change."""
+
+    GUARD = 16
+
+    def __init__(self, kind, numbers):
+        self.length = len(numbers)
+        low = -(2 ** (8 * ctypes.sizeof(kind) - 1))
+        guard = [low + 12345 + i for i in range(self.GUARD)]
+        self.before = guard + list(numbers) + guard
+        self.memory = (kind * len(self.before))(*self.before)
+        self.lent = ctypes.c_void_p(ctypes.addressof(self.memory) + self.GUARD * ctypes.sizeof(kind))
+
+    def words(self):
+        """How the slice is passed."""
+        return self.lent, self.length
+
+    def numbers(self):
+        return self.memory[self.GUARD : self.GUARD + self.length]
+
+    def demand(self, name, written):
+        """The slice must now start with what is written there and be unchanged beyond it; so must both guards."""
+        expected = self.before[:]
+        expected[self.GUARD : self.GUARD + len(written)] = written
+        now = self.memory[:]
+        if now != expected:
+            at = next(i for i, pair in enumerate(zip(now, expected)) if pair[0] != pair[1])
+            place = at - self.GUARD
+            where = "" if 0 <= place < self.length else f", which is outside the slice of {self.length},"
+            raise Wrong(f"{name}[{place}]{where} is {now[at]} and should be {expected[at]}")
+
+
+def filled(count, start):
+    """What stands in a buffer before a call: numbers that are all different and not 0."""
+    return range(start, start + count)
+
+
+def shown(numbers):
+    start = ", ".join(map(str, numbers[:40]))
+    return f"({start})" if len(numbers) <= 40 else f"({start}, ...)"
+
+
+def demand_equal(name, found, expected):
+    """For what the specification says in so many words."""
+    if found != expected:
+        raise Wrong(f"{name}: {found}, and the specification says {expected}")
+
+
+class Library:
+    """The exported functions by their names, and what a child process says last."""
+
+    def __init__(self, file):
+        library = ctypes.CDLL(file)
+        self.functions = {}
+        for operation, types in PARAMETERS.items():
+            function = getattr(library, "spline_" + operation, None)
+            if function is not None:
+                function.argtypes = types
+                function.restype = ctypes.c_int64
+                self.functions[operation] = function
+        # The call in progress, which the parent prints after a crash, or the summary of a group.
+        self.in_progress = mmap.mmap(-1, 4096)
+
+    def say(self, case):
+        self.in_progress.seek(0)
+        self.in_progress.write(case.encode()[:4000] + b"\0")
+
+    def said(self):
+        return self.in_progress[:].split(b"\0")[0].decode(errors="replace")
+
+
+class Tests:
+    """What every group has: the library, and what is printed with the group: its seed, its calls and the greatest distance found."""
+
+    def __init__(self, library):
+        self.library = library
+        self.seed = None
+        self.calls = 0
+        self.greatest = Fraction(0)
+
+    def random(self, seed):
+        self.seed = seed
+        return random.Random(seed)
+
+    def within(self, distance, limit, what):
+        self.greatest = max(self.greatest, distance)
+        if distance > limit:
+            raise Wrong(f"{what} lies {float(distance)} units from the exact one, more than {limit}")
+
+    def summary(self):
+        seed = f"seed {self.seed}, " if self.seed is not None else ""
+        calls = f"{self.calls} calls, " if self.calls > 0 else ""
+        return seed + calls + (f"greatest distance {float(self.greatest):.4f}, " if self.greatest > 0 else "")
+
+
+class Count:
+    """The groups that passed and failed, and the name of the test in front of each line."""
+
+    def __init__(self, label):
+        self.label = label
+        self.passed = 0
+        self.failed = 0
+
+    def say(self, what):
+        print(f"{self.label}: {what}", flush=True)
+
+    def add(self, passes, what):
+        if passes:
+            self.passed += 1
+        else:
+            self.failed += 1
+        self.say(what)
+
+    def finish(self):
+        print(f"{self.passed} passed, {self.failed} failed")
+        sys.exit(0 if self.failed == 0 else 1)
+
+
+def run_in_child(group, tests, count):
+    """What the child process of a group does. It never returns."""
+    signal.alarm(SECONDS_FOR_A_GROUP)
+    status = 1
+    try:
+        group(tests)
+        tests.library.say(tests.summary())
+        status = 0
+    except Wrong as wrong:
+        count.say(f"FAILED: {wrong}")
+    except BaseException:
+        traceback.print_exc(file=sys.stdout)
+    sys.stdout.flush()
+    os._exit(status)
+
+
+def run_group(name, group, tests, count):
+    """Runs a group in a child process; only exit status 0 is a pass."""
+    library = tests.library
+    library.say("no call")
+    start = time.monotonic()
+    sys.stdout.flush()
+    child = os.fork()
+    if child == 0:
+        run_in_child(group, tests, count)
+    status = os.waitstatus_to_exitcode(os.waitpid(child, 0)[1])
+    if status < 0:
+        count.say(f"FAILED: ended by signal {-status} ({signal.Signals(-status).name}) in the case: {library.said()}")
+    seconds = f"{time.monotonic() - start:.1f} s"
+    count.add(status == 0, f"{name}: passed ({library.said()}{seconds})" if status == 0 else f"{name}: FAILED ({seconds})")
+
+
+def built(count, root):
+    """The static library of the crate exports, built by the kit; None, with a failure counted, if that cannot be done."""
+    done = subprocess.run(["rt", "staticlib", "exports"], cwd=root, stdout=subprocess.PIPE, stderr=subprocess.STDOUT, text=True)
+    file = os.path.join(root, "target", "staticlib", "libexports.a")
+    if done.returncode != 0 or not os.path.exists(file):
+        print(done.stdout, end="")
+        count.add(False, f"FAILED: 'rt staticlib exports' ended with status {done.returncode}")
+        return None
+    return file
+
+
+def archive_to_test(count, what):
+    """The static library that the command line names, or the one of this tree, built; None, with a failure counted, if there is none."""
+    parser = argparse.ArgumentParser(description=what)
+    parser.add_argument("--library", metavar="FILE", help="test this static library; nothing is built")
+    given = parser.parse_args().library
+    for tool in ("cc",) if given else ("cc", "rt"):
+        if shutil.which(tool) is None:
+            count.add(False, f"FAILED: the command '{tool}' is not on the PATH")
+    if count.failed > 0:
+        return None
+    if given:
+        return os.path.abspath(given)
+    return built(count, os.path.dirname(os.path.dirname(os.path.dirname(os.path.abspath(__file__)))))
+
+
+def main(label, what, kind, definitions, groups):
+    """Runs the group of the test's own definitions and then, with a fresh object of this kind of tests each, the groups of every operation."""
+    count = Count(label)
+    archive = archive_to_test(count, what)
+    if archive is None:
+        count.finish()
+    with tempfile.TemporaryDirectory() as room:
+        shared = os.path.join(room, f"{label}.so")
+        linked = subprocess.run(["cc", "-shared", "-o", shared, "-Wl,--whole-archive", archive, "-Wl,--no-whole-archive"])
+        if linked.returncode != 0:
+            count.add(False, "FAILED: no shared library could be made of the static one")
+            count.finish()
+        library = Library(shared)
+        run_group("the definitions in this test", definitions, kind(library), count)
+        for operation, named in groups.items():
+            if operation not in library.functions:
+                count.add(False, f"FAILED: spline_{operation} is not exported")
+                continue
+            for name, group in named:
+                run_group(f"{operation}, {name}", group, kind(library), count)
+    count.finish()
