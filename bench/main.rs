@@ -1,9 +1,11 @@
-//! Measures the library beside the same operations in safe Rust.
+//! Measures the library beside the same operations in safe Rust and beside the classic algorithm in C.
 //!
-//! `main list` prints the name, the repetitions and the title of each case, parted by tabs. `main NAME` measures one case and prints two times
-//! in microseconds, the library's and that of Rust. Each is the minimum over the repetitions; each repetition has fresh data, which both get,
-//! and their answers and every number of their buffers are compared. A difference ends the program with status 1.
+//! `main list` prints the name, the repetitions and the title of each case, parted by tabs. `main NAME` measures one case and prints three
+//! times in microseconds: the library's, that of Rust and that of C. Each is the minimum over the repetitions; each repetition has fresh data,
+//! which all get. The answers of library and Rust and every number of their buffers are compared, and the results of C, which are not exact,
+//! must lie near those of the library. A difference ends the program with status 1.
 
+mod classic;
 mod data;
 mod library;
 mod rust;
@@ -11,23 +13,28 @@ mod rust;
 use std::process::ExitCode;
 use std::time::{Duration, Instant};
 
-/// What an operation reads: samples or pixels, or the coefficients of samples.
+/// What an operation reads: samples or pixels, or the coefficients of samples; in C these are in double precision.
 struct Input {
     samples: Vec<i16>,
     coefficients: Vec<i32>,
+    real_coefficients: Vec<f64>,
 }
 
-/// What an operation answers and writes.
+/// What an operation answers and writes. C answers nothing and writes numbers in double precision: a row, a picture or values, and a line.
 struct Output {
     answer: i64,
     numbers: Vec<i32>,
     work: Vec<i64>,
+    reals: Vec<f64>,
+    line: Vec<f64>,
 }
 
 type Operation = fn(&Input, &mut Output);
 
 /// One line of the table: what is measured, how often, and how many numbers it reads, writes and works in. Coefficients are those of the
-/// samples of a row; an operation that reads no coefficients has 0 of them.
+/// samples of a row; an operation that reads no coefficients has 0 of them. The line is that of C. A number of the library is `unit` times the
+/// one of C, and may differ from it by `distance`: that is at least what is proved of the library's distance to the exact number, and some room
+/// for the error of C.
 struct Case {
     name: &'static str,
     title: &'static str,
@@ -36,8 +43,12 @@ struct Case {
     coefficients: usize,
     numbers: usize,
     work: usize,
+    line: usize,
+    unit: f64,
+    distance: f64,
     library: Operation,
     rust: Operation,
+    c: Operation,
 }
 
 const ROW: usize = 4096;
@@ -53,11 +64,17 @@ const CASES: [Case; 3] = [
         coefficients: 0,
         numbers: ROW,
         work: ROW + 48,
+        line: 0,
+        unit: 4096.0,
+        distance: 2.0,
         library: |from, to| {
             to.answer = library::row_transform(&from.samples, &mut to.numbers, &mut to.work);
         },
         rust: |from, to| {
             to.answer = rust::row_transform(&from.samples, &mut to.numbers, &mut to.work);
+        },
+        c: |from, to| {
+            classic::row_transform(&from.samples, &mut to.reals);
         },
     },
     Case {
@@ -68,6 +85,9 @@ const CASES: [Case; 3] = [
         coefficients: 0,
         numbers: SIDE * SIDE,
         work: SIDE + 48,
+        line: SIDE,
+        unit: 4096.0,
+        distance: 8.0,
         library: |from, to| {
             to.answer = library::picture_transform(
                 &from.samples,
@@ -81,6 +101,9 @@ const CASES: [Case; 3] = [
             to.answer =
                 rust::picture_transform(&from.samples, SIDE, SIDE, &mut to.numbers, &mut to.work);
         },
+        c: |from, to| {
+            classic::picture_transform(&from.samples, SIDE, SIDE, &mut to.reals, &mut to.line);
+        },
     },
     Case {
         name: "row_zoom",
@@ -90,11 +113,17 @@ const CASES: [Case; 3] = [
         coefficients: ROW,
         numbers: (ROW - 1) * FACTOR + 1,
         work: 0,
+        line: 0,
+        unit: 256.0,
+        distance: 1.0,
         library: |from, to| {
             to.answer = library::row_zoom(&from.coefficients, FACTOR, &mut to.numbers);
         },
         rust: |from, to| {
             to.answer = rust::row_zoom(&from.coefficients, FACTOR, &mut to.numbers);
+        },
+        c: |from, to| {
+            classic::row_zoom(&from.real_coefficients, FACTOR, &mut to.reals);
         },
     },
 ];
@@ -104,15 +133,17 @@ impl Input {
         Input {
             samples: vec![0; case.samples],
             coefficients: vec![0; case.coefficients],
+            real_coefficients: vec![0.0; case.coefficients],
         }
     }
 
-    /// The data of one repetition. Coefficients are made by the library's transform, which a case of its own compares with Rust.
+    /// The data of one repetition. Coefficients are made by the library's transform and by that of C, which a case of its own compares.
     fn fill(&mut self, repetition: u64) -> Result<(), String> {
         data::fill(repetition, &mut self.samples);
         if self.coefficients.is_empty() {
             return Ok(());
         }
+        classic::row_transform(&self.samples, &mut self.real_coefficients);
         let mut work = vec![0; self.samples.len() + 48];
         match library::row_transform(&self.samples, &mut self.coefficients, &mut work) {
             answer if answer < 0 => Err(format!("the row transform refused, {answer}")),
@@ -122,11 +153,25 @@ impl Input {
 }
 
 impl Output {
-    fn new(case: &Case) -> Output {
+    /// The buffers of the library and of Rust.
+    fn exact(case: &Case) -> Output {
         Output {
             answer: 0,
             numbers: vec![0; case.numbers],
             work: vec![0; case.work],
+            reals: Vec::new(),
+            line: Vec::new(),
+        }
+    }
+
+    /// The buffers of C.
+    fn real(case: &Case) -> Output {
+        Output {
+            answer: 0,
+            numbers: Vec::new(),
+            work: Vec::new(),
+            reals: vec![0.0; case.numbers],
+            line: vec![0.0; case.line],
         }
     }
 
@@ -134,6 +179,8 @@ impl Output {
     fn prepare(&mut self) {
         self.numbers.fill(i32::MIN);
         self.work.fill(i64::MIN);
+        self.reals.fill(f64::NAN);
+        self.line.fill(f64::NAN);
     }
 }
 
@@ -148,7 +195,7 @@ fn place_of_difference<Number: PartialEq>(one: &[Number], other: &[Number]) -> O
     one.iter().zip(other).position(|(a, b)| a != b)
 }
 
-/// What differs first between the two results, if anything does.
+/// What differs first between the results of library and Rust, if anything does.
 fn difference(library: &Output, rust: &Output) -> Option<String> {
     if library.answer != rust.answer {
         return Some(format!(
@@ -169,41 +216,49 @@ fn difference(library: &Output, rust: &Output) -> Option<String> {
     ))
 }
 
-/// The least times of the library and of Rust. They take turns in going first.
-fn measure(case: &Case) -> Result<(Duration, Duration), String> {
+/// Which result of C is the first that is too far from that of the library, if one is. What is not a number is too far.
+fn excess(case: &Case, library: &Output, c: &Output) -> Option<String> {
+    let near =
+        |number: i32, real: f64| (case.unit * real - f64::from(number)).abs() <= case.distance;
+    let k = library
+        .numbers
+        .iter()
+        .zip(&c.reals)
+        .position(|(&number, &real)| !near(number, real))?;
+    Some(format!(
+        "number {k}, {} and {}",
+        library.numbers[k],
+        case.unit * c.reals[k]
+    ))
+}
+
+/// The least times of the library, of Rust and of C. They take turns in going first.
+fn measure(case: &Case) -> Result<[Duration; 3], String> {
+    let operations = [case.library, case.rust, case.c];
     let mut from = Input::new(case);
-    let mut by_library = Output::new(case);
-    let mut by_rust = Output::new(case);
-    let mut least = (Duration::MAX, Duration::MAX);
+    let mut to = [Output::exact(case), Output::exact(case), Output::real(case)];
+    let mut least = [Duration::MAX; 3];
     for repetition in 0..case.repetitions {
         from.fill(repetition)?;
-        // Even repetitions are noise and odd ones are clicks; each kind is measured in both orders.
-        let library_first = repetition / 2 % 2 == 0;
-        if library_first {
-            least.0 = least.0.min(time(case.library, &from, &mut by_library));
+        // Even repetitions are noise and odd ones are clicks; in each kind each of the three goes first.
+        let first = (repetition / 2 % 3) as usize;
+        for turn in 0..3 {
+            let i = (first + turn) % 3;
+            least[i] = least[i].min(time(operations[i], &from, &mut to[i]));
         }
-        least.1 = least.1.min(time(case.rust, &from, &mut by_rust));
-        if !library_first {
-            least.0 = least.0.min(time(case.library, &from, &mut by_library));
+        let [library, rust, c] = &to;
+        let place = format!("{}, repetition {repetition}", case.name);
+        if rust.answer < 0 {
+            return Err(format!("{place}: refused, {}", rust.answer));
         }
-        if by_rust.answer < 0 {
-            return Err(format!(
-                "{}, repetition {repetition}: refused, {}",
-                case.name, by_rust.answer
-            ));
+        if let Some(what) = difference(library, rust) {
+            return Err(format!("{place}: library and Rust differ in {what}"));
         }
-        if let Some(what) = difference(&by_library, &by_rust) {
-            return Err(format!(
-                "{}, repetition {repetition}: library and Rust differ in {what}",
-                case.name
-            ));
+        if let Some(what) = excess(case, library, c) {
+            return Err(format!("{place}: library and C differ too much in {what}"));
         }
     }
     Ok(least)
-}
-
-fn microseconds(time: Duration) -> f64 {
-    time.as_nanos() as f64 / 1000.0
 }
 
 fn main() -> ExitCode {
@@ -219,8 +274,9 @@ fn main() -> ExitCode {
         return ExitCode::from(2);
     };
     match measure(case) {
-        Ok((library, rust)) => {
-            println!("{:.2} {:.2}", microseconds(library), microseconds(rust));
+        Ok(least) => {
+            let [library, rust, c] = least.map(|time| time.as_nanos() as f64 / 1000.0);
+            println!("{library:.2} {rust:.2} {c:.2}");
             ExitCode::SUCCESS
         }
         Err(what) => {

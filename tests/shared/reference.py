@@ -1,5 +1,5 @@
 """The operations in whole numbers and fractions, written from docs/SPECIFICATION.md alone: transforms and values to the last bit, the exact
-solution of the mirrored equations and the exact spline for the distances, and the refusals by lengths and sides."""
+solution of the mirrored equations and the exact spline for the distances, and the refusals by lengths, sides and factors."""
 from fractions import Fraction
 from functools import lru_cache
 
@@ -7,7 +7,7 @@ POLE = 575416509  # Z
 MARGIN = 24
 LONGEST_ROW = 4096
 LONGEST_SIDE = 512
-LARGEST_FACTOR = 16
+FACTORS = range(1, 17)
 
 
 def nearest(numerator, denominator):
@@ -150,7 +150,7 @@ def picture_value(coefficients, width, x, y, m):
     return nearest(picture_sum(coefficients, width, x, y, m), 576 * m**6)
 
 
-# ----- Refusals by lengths and sides -----
+# ----- Refusals by lengths, sides and factors -----
 
 
 def length_refusal(n):
@@ -165,3 +165,7 @@ def sides_refusal(count, width, height):
     if not (1 <= width <= LONGEST_SIDE and 1 <= height <= LONGEST_SIDE):
         return 3
     return 4 if count != width * height else None
+
+
+def factor_refusal(m):
+    return None if m in FACTORS else 7

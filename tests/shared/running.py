@@ -1,7 +1,7 @@
-"""How an outside test lends buffers, calls the library and counts its groups.
+"""How an outside test builds what it tests, lends buffers, calls the library and counts its groups.
 
-The library is the crate exports, built by the kit and linked into a shared library. A group of comparisons counts as one test and runs in a
-process of its own, so that a crash or a call that never returns fails that group only.
+What is tested is a program, or the library: the crate exports, built by the kit and linked into a shared library. A group of comparisons counts
+as one test and runs in a process of its own, so that a crash or a call that never returns fails that group only.
 """
 import argparse
 import ctypes
@@ -18,6 +18,7 @@ import traceback
 from fractions import Fraction
 
 SECONDS_FOR_A_GROUP = 60
+ROOT = os.path.dirname(os.path.dirname(os.path.dirname(os.path.abspath(__file__))))
 
 SLICE = [ctypes.c_void_p, ctypes.c_size_t]
 SIZE = [ctypes.c_size_t]
@@ -85,7 +86,7 @@ def demand_equal(name, found, expected):
 
 
 class Library:
-    """The exported functions by their names, and what a child process says last."""
+    """The exported functions by their names."""
 
     def __init__(self, file):
         library = ctypes.CDLL(file)
@@ -96,8 +97,20 @@ class Library:
                 function.argtypes = types
                 function.restype = ctypes.c_int64
                 self.functions[operation] = function
+
+
+class Tests:
+    """What every group has: what its process says last, and what is printed with the group: its seed, its calls and the greatest distance
+    found."""
+
+    CALLS = "calls"
+
+    def __init__(self):
         # The call in progress, which the parent prints after a crash, or the summary of a group.
         self.in_progress = mmap.mmap(-1, 4096)
+        self.seed = None
+        self.calls = 0
+        self.greatest = Fraction(0)
 
     def say(self, case):
         self.in_progress.seek(0)
@@ -105,16 +118,6 @@ class Library:
 
     def said(self):
         return self.in_progress[:].split(b"\0")[0].decode(errors="replace")
-
-
-class Tests:
-    """What every group has: the library, and what is printed with the group: its seed, its calls and the greatest distance found."""
-
-    def __init__(self, library):
-        self.library = library
-        self.seed = None
-        self.calls = 0
-        self.greatest = Fraction(0)
 
     def random(self, seed):
         self.seed = seed
@@ -127,8 +130,16 @@ class Tests:
 
     def summary(self):
         seed = f"seed {self.seed}, " if self.seed is not None else ""
-        calls = f"{self.calls} calls, " if self.calls > 0 else ""
+        calls = f"{self.calls} {self.CALLS}, " if self.calls > 0 else ""
         return seed + calls + (f"greatest distance {float(self.greatest):.4f}, " if self.greatest > 0 else "")
+
+
+class LibraryTests(Tests):
+    """What the groups have that call the library."""
+
+    def __init__(self, library):
+        super().__init__()
+        self.library = library
 
 
 class Count:
@@ -160,7 +171,7 @@ def run_in_child(group, tests, count):
     status = 1
     try:
         group(tests)
-        tests.library.say(tests.summary())
+        tests.say(tests.summary())
         status = 0
     except Wrong as wrong:
         count.say(f"FAILED: {wrong}")
@@ -172,8 +183,7 @@ def run_in_child(group, tests, count):
 
 def run_group(name, group, tests, count):
     """Runs a group in a child process; only exit status 0 is a pass."""
-    library = tests.library
-    library.say("no call")
+    tests.say("no call")
     start = time.monotonic()
     sys.stdout.flush()
     child = os.fork()
@@ -181,41 +191,42 @@ def run_group(name, group, tests, count):
         run_in_child(group, tests, count)
     status = os.waitstatus_to_exitcode(os.waitpid(child, 0)[1])
     if status < 0:
-        count.say(f"FAILED: ended by signal {-status} ({signal.Signals(-status).name}) in the case: {library.said()}")
+        count.say(f"FAILED: ended by signal {-status} ({signal.Signals(-status).name}) in the case: {tests.said()}")
     seconds = f"{time.monotonic() - start:.1f} s"
-    count.add(status == 0, f"{name}: passed ({library.said()}{seconds})" if status == 0 else f"{name}: FAILED ({seconds})")
+    count.add(status == 0, f"{name}: passed ({tests.said()}{seconds})" if status == 0 else f"{name}: FAILED ({seconds})")
 
 
-def built(count, root):
-    """The static library of the crate exports, built by the kit; None, with a failure counted, if that cannot be done."""
-    done = subprocess.run(["rt", "staticlib", "exports"], cwd=root, stdout=subprocess.PIPE, stderr=subprocess.STDOUT, text=True)
-    file = os.path.join(root, "target", "staticlib", "libexports.a")
+def built(count, command, place):
+    """The file of this tree that a command of the kit builds; None, with a failure counted, if that cannot be done."""
+    done = subprocess.run(command.split(), cwd=ROOT, stdout=subprocess.PIPE, stderr=subprocess.STDOUT, text=True)
+    file = os.path.join(ROOT, place)
     if done.returncode != 0 or not os.path.exists(file):
         print(done.stdout, end="")
-        count.add(False, f"FAILED: 'rt staticlib exports' ended with status {done.returncode}")
+        count.add(False, f"FAILED: '{command}' ended with status {done.returncode}")
         return None
     return file
 
 
-def archive_to_test(count, what):
-    """The static library that the command line names, or the one of this tree, built; None, with a failure counted, if there is none."""
+def file_to_test(count, what, option, command, place, tools=()):
+    """The file that the command line names by this option, or the one of this tree, built; None, with a failure counted, if there is none."""
     parser = argparse.ArgumentParser(description=what)
-    parser.add_argument("--library", metavar="FILE", help="test this static library; nothing is built")
-    given = parser.parse_args().library
-    for tool in ("cc",) if given else ("cc", "rt"):
+    parser.add_argument("--" + option, metavar="FILE", help=f"test this {option}; nothing is built")
+    given = vars(parser.parse_args())[option]
+    for tool in tools if given else (*tools, "rt"):
         if shutil.which(tool) is None:
             count.add(False, f"FAILED: the command '{tool}' is not on the PATH")
+    if given and not os.path.isfile(given):
+        count.add(False, f"FAILED: there is no file '{given}'")
     if count.failed > 0:
         return None
-    if given:
-        return os.path.abspath(given)
-    return built(count, os.path.dirname(os.path.dirname(os.path.dirname(os.path.abspath(__file__)))))
+    return os.path.abspath(given) if given else built(count, command, place)
 
 
 def main(label, what, kind, definitions, groups):
-    """Runs the group of the test's own definitions and then, with a fresh object of this kind of tests each, the groups of every operation."""
+    """Tests the library: runs the group of the test's own definitions and then, with a fresh object of this kind of tests each, the groups of
+    every operation."""
     count = Count(label)
-    archive = archive_to_test(count, what)
+    archive = file_to_test(count, what, "library", "rt staticlib exports", "target/staticlib/libexports.a", ("cc",))
     if archive is None:
         count.finish()
     with tempfile.TemporaryDirectory() as room:

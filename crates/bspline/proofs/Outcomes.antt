@@ -27,12 +27,12 @@ one-to limit n e =
     (omega (arith, eqb-false n 0 z), ltb-false limit n l)
 
 -- no test's condition holds
-abbrev Passed : List Test → Type 0
+abbrev pub Passed : List Test → Type 0
 Passed [] = Unit
 Passed ((k when c) ∷ tests) = (c ≡ false) × Passed tests
 
 -- what holds of every refusal, and of the accepted outcome where no condition holds, holds of whichever comes about
-judged-cases : {A : Type 0} (P : A → Type 0) (tests : List Test) (refuse : ℕ → A) (result : A) →
+pub judged-cases : {A : Type 0} (P : A → Type 0) (tests : List Test) (refuse : ℕ → A) (result : A) →
     ((k : ℕ) → P (refuse k)) → (Passed tests → P result) → P (judged tests refuse result)
 judged-cases P [] refuse result f p = p tt
 judged-cases P ((k when true) ∷ tests) refuse result f p = f k

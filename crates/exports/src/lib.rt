@@ -1,32 +1,14 @@
 // The operations with the C calling convention, for tests and benchmarks in other languages. No part of the library: nothing in the
 // repository but tests/ and bench/ uses it.
 ghost use mathlib.Core.Path.{_≡_};
-ghost use Rattle.bspline.specs.Outcomes.{refusal, rowTransform, pictureTransform, rowZoom, rowValue, pictureValue};
-ghost use Rattle.spline.specs.Answers.{number, valued, written};
+ghost use Rattle.bspline.specs.Outcomes.{rowTransform, pictureTransform, rowZoom, rowValue, pictureValue};
+ghost use Rattle.spline.specs.Answers.{valued, written};
 ghost use Rattle.spline.specs.Pictures.{sides};
 ghost use Rattle.exports.specs.Codes.{code, valueCode, Countable};
 use spline::Position;
-use spline::Refusal;
 use spline::Shape;
 use spline::Valued;
 use spline::Written;
-
-// A refusal's number, negated.
-fn refusal_code(r: Refusal) -> i64
-    ensures { λ x. ⌜ x ≡ code (refusal (number r)) ⌝ }
-{
-    match r {
-        Refusal::EmptyRow => -1,
-        Refusal::LongRow => -2,
-        Refusal::BadSide => -3,
-        Refusal::WrongCount => -4,
-        Refusal::ShortWork => -5,
-        Refusal::ShortCoefficients => -6,
-        Refusal::BadFactor => -7,
-        Refusal::OffData => -8,
-        Refusal::ShortValues => -9,
-    }
-}
 
 // A count as itself, or a refusal's number negated.
 fn written_code(w: Written) -> i64
@@ -35,7 +17,7 @@ fn written_code(w: Written) -> i64
 {
     match w {
         Written::Count(n) => n as i64,
-        Written::Refused(r) => refusal_code(r),
+        Written::Refused(r) => -(r.number() as i64),
     }
 }
 
@@ -45,7 +27,7 @@ fn valued_code(v: Valued) -> i64
 {
     match v {
         Valued::Value(x) => x as i64,
-        Valued::Refused(r) => 4294967296 - refusal_code(r),
+        Valued::Refused(r) => 4294967296 + r.number() as i64,
     }
 }
 

@@ -9,5 +9,6 @@ pub mod LineLoop
 pub mod Pictures
 pub mod ZoomParts
 pub mod Words
+pub mod Numbering
 pub mod Cubics
 pub mod PictureSums

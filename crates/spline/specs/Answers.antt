@@ -5,7 +5,7 @@ use Rattle.bspline.specs.Tables as tables
 use Rattle.bspline.specs.Values as values
 use Rattle.spline.specs.declared.Position.{Position}
 use Rattle.spline.specs.declared.Refusal.{Refusal}
-use Rattle.spline.specs.declared.Refusal.the-variants.{EmptyRow, LongRow, BadSide, WrongCount, ShortWork, ShortCoefficients, BadFactor, OffData, ShortValues}
+use Rattle.spline.specs.declared.Refusal.the-variants.{EmptyRow, LongRow, BadSide, WrongCount, ShortWork, ShortCoefficients, BadFactor, OffData, ShortValues, BadText}
 use Rattle.spline.specs.declared.Shape.{Shape}
 use Rattle.spline.specs.declared.Valued.{Valued}
 use Rattle.spline.specs.declared.Valued.the-variants.{Value, Refused as NoValue}
@@ -23,6 +23,7 @@ number ShortCoefficients = 6
 number BadFactor = 7
 number OffData = 8
 number ShortValues = 9
+number BadText = 10
 
 -- what an enum answers
 abbrev pub written : Written → Answer

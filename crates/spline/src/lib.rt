@@ -13,6 +13,9 @@ pub mod row;
 mod sums;
 mod zoom;
 
+ghost use mathlib.Core.Path.{_≡_};
+ghost use Rattle.spline.specs.Answers.{number};
+
 // Why a call is refused. The number of each is in specs/Answers.antt.
 pub enum Refusal {
     EmptyRow,
@@ -24,6 +27,27 @@ pub enum Refusal {
     BadFactor,
     OffData,
     ShortValues,
+    BadText,
+}
+
+impl Refusal {
+    // Its number in the specification.
+    pub fn number(self) -> usize
+        ensures { λ r. ⌜ r ≡ number self ⌝ }
+    {
+        match self {
+            Refusal::EmptyRow => 1,
+            Refusal::LongRow => 2,
+            Refusal::BadSide => 3,
+            Refusal::WrongCount => 4,
+            Refusal::ShortWork => 5,
+            Refusal::ShortCoefficients => 6,
+            Refusal::BadFactor => 7,
+            Refusal::OffData => 8,
+            Refusal::ShortValues => 9,
+            Refusal::BadText => 10,
+        }
+    }
 }
 
 // What a transform and row zoom answer: how many numbers were written, or the refusal.

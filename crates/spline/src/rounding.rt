@@ -62,7 +62,7 @@ pub(crate) fn coefficient_of(b: i64) -> i32
 
 // a / d rounded to nearest, for a at most GREATEST_VALUE × d from 0. Moved up by that much the dividend is not negative, and the division of an
 // unsigned number by a constant is one product and a shift.
-fn round_small(a: i64, d: i64) -> i32
+pub(crate) fn round_small(a: i64, d: i64) -> i32
     requires { ⌜ (pos 0 <ℤ d) × (natAbs d ≤ 2 ^ 20) × (natAbs a ≤ 2 ^ 27 * natAbs d) ⌝ }
     ensures { λ r. ⌜ r ≡ round a (natAbs d) ⌝ }
 {
@@ -71,29 +71,29 @@ fn round_small(a: i64, d: i64) -> i32
     (quotient as i64 - GREATEST_VALUE) as i32
 }
 
-// The row value of a weighted sum at factor m, which is at most that of the greatest coefficients. Each factor has its constant divisor.
+// A value: sum / divisor rounded to nearest, for a sum at most GREATEST_VALUE × divisor from 0.
+fn value_of(sum: i64, divisor: i64) -> i32
+    requires { ⌜ (pos 0 <ℤ divisor) × (natAbs sum ≤ 2 ^ 27 * natAbs divisor) × (natAbs sum + 2 * natAbs divisor ≤ 2 ^ 63) ⌝ }
+    ensures { λ r. ⌜ r ≡ round sum (natAbs divisor) ⌝ }
+{
+    round_div(sum, divisor) as i32
+}
+
+// m³, for a factor m.
+fn cube(m: usize) -> i64
+    requires { ⌜ m ≤ 16 ⌝ }
+    ensures { λ r. ⌜ (r ≡ pos (m ^ 3)) × (natAbs r ≤ 16 ^ 3) ⌝ }
+{
+    let factor = m as i64;
+    factor * factor * factor
+}
+
+// The row value of a weighted sum at factor m, which is at most that of the greatest coefficients.
 pub(crate) fn row_value_of(sum: i64, m: usize) -> i32
     requires { ⌜ (0 < m) × (m ≤ 16) × (natAbs sum ≤ 6 * m ^ 3 * 2 ^ 31) ⌝ }
     ensures { λ r. ⌜ r ≡ round sum (96 * m ^ 3) ⌝ }
 {
-    match m {
-        1 => round_small(sum, 96),
-        2 => round_small(sum, 768),
-        3 => round_small(sum, 2592),
-        4 => round_small(sum, 6144),
-        5 => round_small(sum, 12000),
-        6 => round_small(sum, 20736),
-        7 => round_small(sum, 32928),
-        8 => round_small(sum, 49152),
-        9 => round_small(sum, 69984),
-        10 => round_small(sum, 96000),
-        11 => round_small(sum, 127776),
-        12 => round_small(sum, 165888),
-        13 => round_small(sum, 210912),
-        14 => round_small(sum, 263424),
-        15 => round_small(sum, 324000),
-        _ => round_small(sum, 393216),
-    }
+    value_of(sum, 96 * cube(m))
 }
 
 // The picture value of a weighted sum at factor m.
@@ -101,7 +101,6 @@ pub(crate) fn picture_value_of(sum: i64, m: usize) -> i32
     requires { ⌜ (0 < m) × (m ≤ 16) × (natAbs sum ≤ 36 * m ^ 6 * 2 ^ 31) ⌝ }
     ensures { λ r. ⌜ r ≡ round sum (576 * m ^ 6) ⌝ }
 {
-    let factor = m as i64;
-    let cube = factor * factor * factor;
-    round_div(sum, 576 * (cube * cube)) as i32
+    let cube = cube(m);
+    value_of(sum, 576 * (cube * cube))
 }

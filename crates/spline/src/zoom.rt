@@ -1,15 +1,16 @@
 // The values of a row at every position that row zoom lists. Between two places the weighted sum is a cubic of the numerator, whose four
-// coefficients are computed once for each place.
+// coefficients are computed once for each place. To the next numerator its differences are added up, which takes three sums and no product.
 ghost use mathlib.Core.Path.{_≡_};
 ghost use Prim.Native.Nat.{_^_, _≤_, _<_};
-ghost use lib.IntN.{pos};
+ghost use lib.IntN.{pos, natAbs};
 ghost use lib.ListN.{length};
+ghost use Rattle.integers.specs.Rounding.{round};
 ghost use Rattle.bspline.specs.Bounds.{AllWithin};
 ghost use Rattle.bspline.specs.Tables.{tabulate};
 ghost use Rattle.bspline.specs.Values.{valueInRow, zoomCount, zoomValues};
 ghost use Rattle.spline.specs.Sums.{listed};
-ghost use Rattle.spline.specs.Zoom.{CubicOf, CubicSmall, Between, cubicSum};
-use crate::rounding::row_value_of;
+ghost use Rattle.spline.specs.Zoom.{cubicSum, CubicOf, CubicSmall, DifferencesAt, DifferencesSmall, Stepped, Fillable, Between};
+use crate::rounding::round_small;
 use crate::sums::Four;
 use crate::sums::support;
 
@@ -19,6 +20,15 @@ pub(crate) struct Cubic {
     pub one: i64,
     pub two: i64,
     pub three: i64,
+}
+
+// A cubic at one numerator: its value, by how much this grows to the next numerator, by how much that growth grows, and by how much that one
+// does, which is the same at every numerator.
+pub(crate) struct Differences {
+    pub value: i64,
+    pub first: i64,
+    pub second: i64,
+    pub third: i64,
 }
 
 // The weighted sum of four coefficients as a cubic of the numerator over m.
@@ -35,25 +45,70 @@ fn cubic_of(c: Four, m: usize) -> Cubic
     }
 }
 
-// The cubic at a numerator.
-fn cubic_at(f: Cubic, j: usize) -> i64
-    requires { ⌜ CubicSmall f × (j ≤ 16) ⌝ }
-    ensures { λ r. ⌜ r ≡ cubicSum f (pos j) ⌝ }
+// The differences of a cubic at the numerator 0.
+fn at_start(f: Cubic) -> Differences
+    requires { ⌜ CubicSmall f ⌝ }
+    ensures { λ r. ⌜ DifferencesAt f (pos 0) r ⌝ }
 {
-    let j = j as i64;
-    ((f.three * j + f.two) * j + f.one) * j + f.zero
+    Differences {
+        value: f.zero,
+        first: f.one + f.two + f.three,
+        second: 2 * f.two + 6 * f.three,
+        third: 6 * f.three,
+    }
 }
 
-// The values from place k on, at the numerators from 0 up, as many as there is room for.
+// The differences at the next numerator, by three sums.
+fn next(d: Differences) -> Differences
+    requires { ⌜ DifferencesSmall d ⌝ }
+    ensures { λ r. ⌜ Stepped d r ⌝ }
+{
+    Differences {
+        value: d.value + d.first,
+        first: d.first + d.second,
+        second: d.second + d.third,
+        third: d.third,
+    }
+}
+
+// The rounded quotients of a cubic by a divisor, at the numerators from 0 up, as many as there is room for.
+fn fill(f: Cubic, divisor: i64, values: &mut [i32])
+    requires { ⌜ Fillable f divisor (now values) ⌝ }
+    ensures { λ _. ⌜ now (values .exit) ≡ tabulate (λ j. round (cubicSum f (pos j)) (natAbs divisor)) 0 (length (now (values .entry))) ⌝ }
+{
+    let mut d = at_start(f);
+    let mut j = 0;
+    while j < values.len() {
+        values[j] = round_small(d.value, divisor);
+        d = next(d);
+        j += 1;
+    }
+}
+
+// The values from place k on, at the numerators from 0 up, as many as there is room for. Each factor has its constant divisor 96m³, which is
+// chosen once for all of them.
 fn zoom_between(c: &[i32], k: usize, m: usize, values: &mut [i32])
     requires { ⌜ Between k m (now c) (now values) ⌝ }
     ensures { λ _. ⌜ now (values .exit) ≡ tabulate (λ j. valueInRow m (now (c .entry)) (record { k = k; j = j })) 0 (length (now (values .entry))) ⌝ }
 {
-    let curve = cubic_of(support(c, 0, c.len(), k), m);
-    let mut j = 0;
-    while j < values.len() {
-        values[j] = row_value_of(cubic_at(curve, j), m);
-        j += 1;
+    let f = cubic_of(support(c, 0, c.len(), k), m);
+    match m {
+        1 => fill(f, 96, values),
+        2 => fill(f, 768, values),
+        3 => fill(f, 2592, values),
+        4 => fill(f, 6144, values),
+        5 => fill(f, 12000, values),
+        6 => fill(f, 20736, values),
+        7 => fill(f, 32928, values),
+        8 => fill(f, 49152, values),
+        9 => fill(f, 69984, values),
+        10 => fill(f, 96000, values),
+        11 => fill(f, 127776, values),
+        12 => fill(f, 165888, values),
+        13 => fill(f, 210912, values),
+        14 => fill(f, 263424, values),
+        15 => fill(f, 324000, values),
+        _ => fill(f, 393216, values),
     }
 }
 

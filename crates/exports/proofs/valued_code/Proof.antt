@@ -1,38 +1,18 @@
--- `exports::valued_code` meets its contract: a value is widened, and a refusal's negated number is taken off 2^32. Assumes nothing.
-use mathlib.Core.Path.{_≡_, sym, ap, _∙_}
-use Prim.Native.Nat.{ℕ, _+_, _^_, _≤_}
-use native.Mathlib.Omega.{arith}
+-- `exports::valued_code` meets its contract: a value is widened, and a refusal's number is added to 2^32. Assumes nothing.
+use mathlib.Core.Path.{sym, ap, _∙_}
+use Prim.Native.Nat.{_+_, _^_}
 use borrow.Author.Needs.{needs, sfits-of}
-use lib.Dec.{lit≤}
-use lib.IntN.{ℤ, pos, negℤ, _-ℤ_}
+use lib.Dec.{lit<}
+use lib.IntN.{pos}
 use mir.Facts.{toZ-ofZ, sfits-widen}
 use mir.Syntax.{w32, w64}
 use mir.Val.{SFits}
-use Rattle.integers.proofs.Linear.{reify, show}
-use Rattle.spline.specs.Answers.{number, valued}
-use Rattle.spline.specs.declared.Refusal.{Refusal}
-use Rattle.spline.specs.declared.Refusal.the-variants.{EmptyRow, LongRow, BadSide, WrongCount, ShortWork, ShortCoefficients, BadFactor, OffData, ShortValues}
+use Rattle.spline.specs.Answers.{valued}
+use Rattle.spline.proofs.Numbering.{numbered}
+use Rattle.spline.proofs.Words.{Word, literal, plus}
 use Rattle.exports.specs.Codes.{valueCode}
 use Rattle.exports.proofs.valued_code.Statement.{statement}
 use Rattle.exports.proofs.valued_code.Tie as tie
-
-number-small : (r : Refusal) → number r ≤ 9
-number-small EmptyRow = lit≤ tt
-number-small LongRow = lit≤ tt
-number-small BadSide = lit≤ tt
-number-small WrongCount = lit≤ tt
-number-small ShortWork = lit≤ tt
-number-small ShortCoefficients = lit≤ tt
-number-small BadFactor = lit≤ tt
-number-small OffData = lit≤ tt
-number-small ShortValues = lit≤ tt
-
-module _ (x : ℤ) (k : ℕ) (e : x ≡ negℤ (pos k)) (small : k ≤ 9) where
-  fits : SFits w64 (pos 4294967296 -ℤ x)
-  fits = rw e (show (simp reify tt) (omega arith))
-
-  above : pos 4294967296 -ℤ x ≡ pos (2 ^ 32 + k)
-  above = rw e (show (simp reify tt) (omega arith))
 
 enum-known-v : tie.Need-enum-known-v
 enum-known-v c = search needs
@@ -47,13 +27,21 @@ cast-result c = rw (toZ-ofZ (narrow c)) (sfits-widen tt (narrow c))
 enum-known-v-2 : tie.Need-enum-known-v-2
 enum-known-v-2 c = search needs
 
-refusal-code-requires : tie.Need-refusal-code-requires
-refusal-code-requires c κs = search needs
+number-requires : tie.Need-number-requires
+number-requires c κs = search needs
 
-sub-result : tie.Need-sub-result
-sub-result c =
-    let f : SFits w64 (c .refusal-code .result) = sfits-of (c .refusal-code .ok) in
-    rw (toZ-ofZ f) (fits (c .refusal-code .result) _ (c .refusal-code .ensures) (number-small (c .before .before .v2 .given .0 .0)))
+module _ (c : tie.After-number) where
+  abbrev number : Word
+  number = numbered (c .before .before .v2 .given .0 .0) (c .number .result) (c .number .ensures)
+
+  abbrev above : Word
+  above = plus (literal 4294967296 (lit< tt)) number (lit< tt)
+
+cast-result-2 : tie.Need-cast-result-2
+cast-result-2 c = number c .fits
+
+add-result : tie.Need-add-result
+add-result c = above c .fits
 
 returns : tie.Need-returns
 returns c =
@@ -63,13 +51,17 @@ returns c =
 
 returns-2 : tie.Need-returns-2
 returns-2 c =
-    let f : SFits w64 (c .refusal-code .result) = sfits-of (c .refusal-code .ok) in
-    let g = fits (c .refusal-code .result) _ (c .refusal-code .ensures) (number-small (c .before .before .v2 .given .0 .0)) in
-    rw (toZ-ofZ f, toZ-ofZ g)
-    (above (c .refusal-code .result) _ (c .refusal-code .ensures) (number-small (c .before .before .v2 .given .0 .0))
-    ∙ sym (ap (λ v. valueCode (valued v)) (c .before .before .v2 .given .1)))
+    above c .means ∙ ap (λ n. pos (2 ^ 32 + n)) (c .number .ensures) ∙ sym (ap (λ v. valueCode (valued v)) (c .before .before .v2 .given .1))
 
 pub valued-code-spec : {M : Type 1} → statement M
 valued-code-spec =
     tie.close
-    (tie.spec enum-known-v cast-result enum-known-v-2 refusal-code-requires sub-result returns returns-2)
+    (tie.spec
+    enum-known-v
+    cast-result
+    enum-known-v-2
+    number-requires
+    cast-result-2
+    add-result
+    returns
+    returns-2)

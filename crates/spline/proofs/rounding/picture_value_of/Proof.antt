@@ -1,34 +1,24 @@
--- `spline::rounding::picture_value_of` meets its contract: for factors up to 16 the divisor fits 64 bits, and the value, at most 2^27, fits 32.
--- Assumes nothing.
+-- `spline::rounding::picture_value_of` meets its contract: for factors up to 16 the divisor fits 64 bits. Assumes nothing.
 use mathlib.Core.Path.{_≡_, sym, ap, _∙_}
 use Prim.Native.Nat.{_*_, _^_, _<_}
 use native.Mathlib.Nat.{one-le-pow}
 use native.Mathlib.Omega.{arith}
 use borrow.Author.Needs.{needs, sfits-of}
 use lib.Dec.{lit<}
-use lib.IntN.{pos}
+use lib.IntN.{pos, _*ℤ_}
 use mir.Facts.{toZ-ofZ}
-use mir.Syntax.{w32, w64}
+use mir.Syntax.{w32}
 use mir.Val.{SFits}
-use Rattle.integers.specs.Rounding.{round}
-use Rattle.integers.proofs.Absolute.{within-fits}
 use Rattle.integers.proofs.Parts.{lt-of}
-use Rattle.integers.proofs.Rounding.{round-within}
-use Rattle.bspline.proofs.Weights.{cubed, sixth}
-use Rattle.spline.proofs.Words.{Word, counted, literal, times, operand-small}
+use Rattle.bspline.proofs.Weights.{sixth}
+use Rattle.spline.proofs.Words.{Word, given, literal, times, operand-small}
 use Rattle.spline.proofs.rounding.picture_value_of.Statement.{statement}
 use Rattle.spline.proofs.rounding.picture_value_of.Tie as tie
 
--- the divisor 576m⁶ as it is made, with what is on the way
-module _ (s : tie.Start) where
-  abbrev factor : Word
-  factor = counted (s .args .m) 16 (s .pre .1) (lit< tt)
-
-  abbrev square : Word
-  square = times factor factor (lit< tt)
-
+-- the divisor 576m⁶ as it is made
+module _ (c : tie.After-cube) where
   abbrev cube : Word
-  cube = times square factor (lit< tt)
+  cube = given (c .cube .result) (16 ^ 3) (record { within = c .cube .ensures .1 }) (lit< tt)
 
   abbrev power : Word
   power = times cube cube (lit< tt)
@@ -36,58 +26,31 @@ module _ (s : tie.Start) where
   abbrev divisor : Word
   divisor = times (literal 576 (lit< tt)) power (lit< tt)
 
-  divisor-is : divisor .operand ≡ pos (576 * s .args .m ^ 6)
-  divisor-is = divisor .means ∙ ap (λ a. pos (576 * a)) (sym (sixth (s .args .m) ∙ ap (λ a. a * a) (cubed (s .args .m))))
+  divisor-is : divisor .operand ≡ pos (576 * c .before .args .m ^ 6)
+  divisor-is = divisor .means ∙ ap (λ a. pos 576 *ℤ (a *ℤ a)) (c .cube .ensures .0) ∙ ap (λ a. pos (576 * a)) (sym (sixth (c .before .args .m)))
 
-  above : 0 < 576 * s .args .m ^ 6
-  above = omega (arith, one-le-pow 6 (s .args .m) (s .pre .0))
+  above : 0 < 576 * c .before .args .m ^ 6
+  above = omega (arith, one-le-pow 6 (c .before .args .m) (c .before .pre .0))
 
-  -- the value is at most 2^27
-  value-fits : SFits w32 (round (s .args .sum) (576 * s .args .m ^ 6))
-  value-fits = within-fits w32 {B = 2 ^ 27} (lit< tt) (round-within (576 * s .args .m ^ 6) above (record { within = omega (arith, s .pre .2) }))
+cube-requires : tie.Need-cube-requires
+cube-requires c κs = search needs
 
-cast-factor : tie.Need-cast-factor
-cast-factor c = search needs
+mul-value-of : tie.Need-mul-value-of
+mul-value-of c = power c .fits
 
-mul-cube : tie.Need-mul-cube
-mul-cube c = square c .fits
+mul-value-of-2 : tie.Need-mul-value-of-2
+mul-value-of-2 c = divisor c .fits
 
-mul-cube-2 : tie.Need-mul-cube-2
-mul-cube-2 c = cube c .fits
-
-mul-round-div : tie.Need-mul-round-div
-mul-round-div c = power c .fits
-
-mul-round-div-2 : tie.Need-mul-round-div-2
-mul-round-div-2 c = divisor c .fits
-
-round-div-requires : tie.Need-round-div-requires
-round-div-requires c κs =
+value-of-requires : tie.Need-value-of-requires
+value-of-requires c κs =
     let small = rw (divisor-is c) at (operand-small (divisor c)) in
-    rw (divisor-is c, toZ-ofZ (c .fits .sum)) (lt-of (omega (arith, above c)), omega (arith, c .pre .2, small .within))
-
-rounded : (c : tie.After-round-div) → c .round-div .result ≡ round (c .before .args .sum) (576 * c .before .args .m ^ 6)
-rounded c = rw (divisor-is (c .before), toZ-ofZ (c .before .fits .sum)) at (c .round-div .ensures)
-
-cast-result : tie.Need-cast-result
-cast-result c =
-    let r : SFits w64 (c .round-div .result) = sfits-of (c .round-div .ok) in
-    rw (toZ-ofZ r, rounded c) (value-fits (c .before))
+    let size = c .before .pre .2 in
+    rw (divisor-is c, toZ-ofZ (c .before .fits .sum)) (lt-of (omega (arith, above c)), omega (arith, size), omega (arith, size, small .within))
 
 returns : tie.Need-returns
 returns c =
-    let r : SFits w64 (c .round-div .result) = sfits-of (c .round-div .ok) in
-    rw (toZ-ofZ r, rounded c, toZ-ofZ (value-fits (c .before)))
+    let r : SFits w32 (c .value-of .result) = sfits-of (c .value-of .ok) in
+    rw (toZ-ofZ r) (rw (divisor-is (c .before), toZ-ofZ (c .before .before .fits .sum)) at (c .value-of .ensures))
 
 pub picture-value-of-spec : {M : Type 1} → statement M
-picture-value-of-spec =
-    tie.close
-    (tie.spec
-    cast-factor
-    mul-cube
-    mul-cube-2
-    mul-round-div
-    mul-round-div-2
-    round-div-requires
-    cast-result
-    returns)
+picture-value-of-spec = tie.close (tie.spec cube-requires mul-value-of mul-value-of-2 value-of-requires returns)

@@ -1,0 +1,127 @@
+/* The operations in double precision, for comparison: the classic algorithm of Unser, Aldroubi and Eden.
+ *
+ * A line is scaled by 6 and goes through one recursion forward and one backward with the pole sqrt(3) - 2, in place. The forward recursion
+ * starts from a sum over the mirrored line, cut off where its terms fall below a tolerance, the backward one from a closed formula. Results
+ * are in counts and not exact to the bit. Nothing is refused: a line has at least one sample, and every buffer is as long as it must be.
+ */
+#include <stddef.h>
+#include <stdint.h>
+
+/* sqrt(3) - 2. */
+#define POLE (-0.26794919243112270647)
+
+/* (1 - POLE)(1 - 1 / POLE). */
+#define GAIN 6.0
+
+/* The first exponent whose power of the pole is below the tolerance of 1e-9 in size: the sum has this many terms. */
+#define HORIZON 16
+
+#define LARGEST_FACTOR 16
+
+/* The sum over k from 0 up of POLE^k times the number at k of the line, which is continued past its end without repeating the end number. */
+static double first_forward(const double *line, size_t n) {
+  double power = POLE;
+  double sum = line[0];
+  if (n > HORIZON) {
+    for (size_t k = 1; k < HORIZON; k++) {
+      sum += power * line[k];
+      power *= POLE;
+    }
+    return sum;
+  }
+  /* A short line: one period of 2(n - 1) numbers, there and back, and the geometric series of all periods. */
+  for (size_t k = 1; k < n; k++) {
+    sum += power * line[k];
+    power *= POLE;
+  }
+  for (size_t k = n - 2; k >= 1; k--) {
+    sum += power * line[k];
+    power *= POLE;
+  }
+  return sum / (1.0 - power);
+}
+
+/* Both recursions over a line of two numbers or more, which are scaled already. */
+static void filter(double *line, size_t n) {
+  double p = first_forward(line, n);
+  line[0] = p;
+  for (size_t k = 1; k < n; k++) {
+    p = line[k] + POLE * p;
+    line[k] = p;
+  }
+  double b = POLE / (POLE * POLE - 1.0) * (POLE * line[n - 2] + line[n - 1]);
+  line[n - 1] = b;
+  for (size_t k = n - 1; k-- > 0;) {
+    b = POLE * (b - line[k]);
+    line[k] = b;
+  }
+}
+
+/* Scales as it loads. The spline of one sample is constant, and its coefficient is the sample. */
+void classic_row_transform(const int16_t *samples, size_t n, double *coefficients) {
+  if (n == 1) {
+    coefficients[0] = samples[0];
+    return;
+  }
+  for (size_t k = 0; k < n; k++)
+    coefficients[k] = GAIN * samples[k];
+  filter(coefficients, n);
+}
+
+/* Rows in place; each column is copied to a line of its own and back. */
+void classic_picture_transform(const int16_t *pixels, size_t width, size_t height, double *coefficients, double *line) {
+  for (size_t y = 0; y < height; y++)
+    classic_row_transform(pixels + y * width, width, coefficients + y * width);
+  if (height == 1)
+    return;
+  for (size_t x = 0; x < width; x++) {
+    for (size_t y = 0; y < height; y++)
+      line[y] = GAIN * coefficients[x + y * width];
+    filter(line, height);
+    for (size_t y = 0; y < height; y++)
+      coefficients[x + y * width] = line[y];
+  }
+}
+
+/* The coefficient at a place from -1 to n + 1, past the ends by the mirrored index. */
+static double mirrored(const double *coefficients, size_t n, ptrdiff_t place) {
+  ptrdiff_t last = (ptrdiff_t)n - 1;
+  if (last == 0)
+    return coefficients[0];
+  if (place < 0)
+    place = -place;
+  place %= 2 * last;
+  return coefficients[place > last ? 2 * last - place : place];
+}
+
+/* The four weights of each numerator are computed once for the whole row. */
+void classic_row_zoom(const double *coefficients, size_t n, size_t factor, double *values) {
+  double weights[LARGEST_FACTOR][4];
+  for (size_t j = 0; j < factor; j++) {
+    double x = (double)j / (double)factor;
+    double y = 1.0 - x;
+    weights[j][0] = y * y * y / 6.0;
+    weights[j][1] = 2.0 / 3.0 - x * x * (1.0 + y) / 2.0;
+    weights[j][2] = 2.0 / 3.0 - y * y * (1.0 + x) / 2.0;
+    weights[j][3] = x * x * x / 6.0;
+  }
+  for (size_t k = 0; k < n; k++) {
+    double a, b, c, d;
+    if (k >= 1 && k + 2 < n) {
+      a = coefficients[k - 1];
+      b = coefficients[k];
+      c = coefficients[k + 1];
+      d = coefficients[k + 2];
+    } else {
+      a = mirrored(coefficients, n, (ptrdiff_t)k - 1);
+      b = coefficients[k];
+      c = mirrored(coefficients, n, (ptrdiff_t)k + 1);
+      d = mirrored(coefficients, n, (ptrdiff_t)k + 2);
+    }
+    /* The zoom ends at the last sample. */
+    size_t count = k + 1 < n ? factor : 1;
+    for (size_t j = 0; j < count; j++)
+      values[j] = weights[j][0] * a + weights[j][1] * b + weights[j][2] * c + weights[j][3] * d;
+    values += count;
+  }
+}

@@ -1,0 +1,58 @@
+//! The operations in double precision, by the functions of classic.c. These test no length, so each is tested here.
+
+extern "C" {
+    fn classic_row_transform(samples: *const i16, n: usize, coefficients: *mut f64);
+
+    fn classic_picture_transform(
+        pixels: *const i16,
+        width: usize,
+        height: usize,
+        coefficients: *mut f64,
+        line: *mut f64,
+    );
+
+    fn classic_row_zoom(coefficients: *const f64, n: usize, factor: usize, values: *mut f64);
+}
+
+pub fn row_transform(samples: &[i16], coefficients: &mut [f64]) {
+    assert!(!samples.is_empty() && coefficients.len() == samples.len());
+    // SAFETY: the pointers are those of slices of the length that is passed, and the slice that is written is lent mutably.
+    unsafe {
+        classic_row_transform(samples.as_ptr(), samples.len(), coefficients.as_mut_ptr());
+    }
+}
+
+pub fn picture_transform(
+    pixels: &[i16],
+    width: usize,
+    height: usize,
+    coefficients: &mut [f64],
+    line: &mut [f64],
+) {
+    assert!(!pixels.is_empty() && pixels.len() == width * height);
+    assert!(coefficients.len() == pixels.len() && line.len() == height);
+    // SAFETY: as above, with the lengths width * height and, of the line, height.
+    unsafe {
+        classic_picture_transform(
+            pixels.as_ptr(),
+            width,
+            height,
+            coefficients.as_mut_ptr(),
+            line.as_mut_ptr(),
+        );
+    }
+}
+
+pub fn row_zoom(coefficients: &[f64], factor: usize, values: &mut [f64]) {
+    assert!(!coefficients.is_empty() && (1..=16).contains(&factor));
+    assert!(values.len() == (coefficients.len() - 1) * factor + 1);
+    // SAFETY: as above, with one value for each position of the zoom.
+    unsafe {
+        classic_row_zoom(
+            coefficients.as_ptr(),
+            coefficients.len(),
+            factor,
+            values.as_mut_ptr(),
+        );
+    }
+}

@@ -1,0 +1,13 @@
+pub mod Digits
+pub mod Fields
+pub mod PartLines
+pub mod Places
+pub mod Puts
+pub mod ReadBack
+pub mod Signs
+pub mod Sized
+pub mod Texts
+pub mod ValueLines
+pub mod WholeOutput
+pub mod Worked
+pub mod Zooming

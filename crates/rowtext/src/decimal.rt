@@ -1,0 +1,65 @@
+// Numbers as decimal text.
+ghost use mathlib.Core.Path.{_≡_};
+ghost use Prim.Native.Nat.{_+_, _≤_, _<_, _^_};
+ghost use lib.ListN.{length};
+ghost use Rattle.rowtext.specs.Decimal.{places, lastDigits};
+ghost use Rattle.rowtext.specs.Output.{field, signedField};
+ghost use Rattle.rowtext.specs.Room.{Put};
+use integers::magnitude;
+
+// How many digits a number has.
+fn count_places(n: u64) -> usize
+    requires { ⌜ n < 10 ^ 10 ⌝ }
+    ensures { λ r. ⌜ r ≡ places n ⌝ }
+{
+    let mut k = 1;
+    let mut limit = 10;
+    while limit <= n {
+        limit *= 10;
+        k += 1;
+    }
+    k
+}
+
+// The last digits of a number, as many as there are bytes. Two digits to a turn halve the chain of divisions.
+fn write_digits(n: u64, digits: &mut [u8])
+    ensures { λ _. ⌜ now (digits .exit) ≡ lastDigits (length (now (digits .entry))) n ⌝ }
+{
+    let mut left = n;
+    let mut i = digits.len();
+    while 1 < i {
+        let pair = left % 100;
+        digits[i - 1] = 48 + (pair % 10) as u8;
+        digits[i - 2] = 48 + (pair / 10) as u8;
+        left /= 100;
+        i -= 2;
+    }
+    if 0 < i {
+        digits[0] = 48 + (left % 10) as u8;
+    }
+}
+
+// A number and the byte that ends its field.
+pub(crate) fn put_field(n: u64, end: u8, out: &mut [u8], at: usize) -> usize
+    requires { ⌜ (n < 10 ^ 10) × (at + length (field n end) ≤ length (now out)) ⌝ }
+    ensures { λ r. ⌜ Put at (field n end) (now (out .entry)) (now (out .exit)) r ⌝ }
+{
+    let k = count_places(n);
+    let stop = at + k;
+    write_digits(n, &mut out[at..stop]);
+    out[stop] = end;
+    stop + 1
+}
+
+// A number with its sign and the byte that ends its field.
+pub(crate) fn put_signed(v: i32, end: u8, out: &mut [u8], at: usize) -> usize
+    requires { ⌜ at + length (signedField v end) ≤ length (now out) ⌝ }
+    ensures { λ r. ⌜ Put at (signedField v end) (now (out .entry)) (now (out .exit)) r ⌝ }
+{
+    let size = magnitude(v);
+    if v < 0 {
+        out[at] = 45;
+        return put_field(size, end, out, at + 1);
+    }
+    put_field(size, end, out, at)
+}

@@ -1,0 +1,29 @@
+// rowzoom: reads a factor and samples as text, and prints the values of the row's spline. What a text means and what is printed are the crate
+// rowtext's; this program reads, calls it and writes.
+use rowtext::Zoomed;
+use rowtext::output::PARTS;
+use rowtext::output::print_part;
+use rowtext::zoom::zoom_text;
+
+fn write_part(zoomed: Zoomed, values: &[i32], part: usize, block: &mut [u8]) {
+    let count = print_part(zoomed, values, part, block);
+    io::write_all(1, &block[..count]);
+}
+
+fn write_output(zoomed: Zoomed, values: &[i32], block: &mut [u8]) {
+    let mut part = 0;
+    while part < PARTS {
+        write_part(zoomed, values, part, block);
+        part += 1;
+    }
+}
+
+fn main() {
+    // One byte more than the longest text, so that a longer one is seen.
+    let mut text = [0u8; 65537];
+    let n = io::read_full(0, &mut text);
+    let mut values = [0i32; 65521];
+    let zoomed = zoom_text(&text[..n], &mut values);
+    let mut block = io::large_buffer();
+    write_output(zoomed, &values, &mut block);
+}
