@@ -29,12 +29,13 @@ refusal-1 n = 1 when eqb n 0
 abbrev pub refusal-2 : ℕ → Test
 refusal-2 n = 2 when ltb 4096 n
 
--- a picture side that is 0 or above 512
-abbrev pub badSide : ℕ → Bool
-badSide n = eqb n 0 || ltb 512 n
+-- a number that is 0 or above a limit
+abbrev pub outside : ℕ → ℕ → Bool
+outside limit n = eqb n 0 || ltb limit n
 
+-- a picture side that is 0 or above 512
 abbrev pub refusal-3 : Shape → Test
-refusal-3 d = 3 when (badSide (d .width) || badSide (d .height))
+refusal-3 d = 3 when (outside 512 (d .width) || outside 512 (d .height))
 
 -- pixels or picture coefficients whose count is not w × h
 abbrev pub refusal-4 : Shape → List ℤ → Test
@@ -50,7 +51,7 @@ refusal-6 n buffer = 6 when ltb (length buffer) n
 
 -- a factor not from 1 to 16
 abbrev pub refusal-7 : ℕ → Test
-refusal-7 m = 7 when (eqb m 0 || ltb 16 m)
+refusal-7 m = 7 when outside 16 m
 
 -- a position off the n data: j not below m, or k above n - 1, or k = n - 1 with j above 0
 abbrev pub offData : ℕ → ℕ → Position → Bool

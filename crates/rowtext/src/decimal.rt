@@ -29,13 +29,13 @@ fn write_digits(n: u64, digits: &mut [u8])
     let mut i = digits.len();
     while 1 < i {
         let pair = left % 100;
-        digits[i - 1] = 48 + (pair % 10) as u8;
-        digits[i - 2] = 48 + (pair / 10) as u8;
+        digits[i - 1] = b'0' + (pair % 10) as u8;
+        digits[i - 2] = b'0' + (pair / 10) as u8;
         left /= 100;
         i -= 2;
     }
     if 0 < i {
-        digits[0] = 48 + (left % 10) as u8;
+        digits[0] = b'0' + (left % 10) as u8;
     }
 }
 
@@ -58,7 +58,7 @@ pub(crate) fn put_signed(v: i32, end: u8, out: &mut [u8], at: usize) -> usize
 {
     let size = magnitude(v);
     if v < 0 {
-        out[at] = 45;
+        out[at] = b'-';
         return put_field(size, end, out, at + 1);
     }
     put_field(size, end, out, at)

@@ -8,7 +8,7 @@ pub mod zoom;
 
 use spline::Refusal;
 
-const LINE_FEED: u8 = 10;
+const LINE_FEED: u8 = b'\n';
 
 // What an accepted text has: its samples, its factor and the count of its values.
 pub struct Sizes {

@@ -17,10 +17,10 @@ fn all_digits(bytes: &[u8]) -> bool
     let mut i = 0;
     while i < bytes.len() {
         let b = bytes[i];
-        if b < 48 {
+        if b < b'0' {
             return false;
         }
-        if 57 < b {
+        if b'9' < b {
             return false;
         }
         i += 1;
@@ -49,7 +49,7 @@ fn value_of(digits: &[u8]) -> u64
     let mut value = 0;
     let mut i = 0;
     while i < digits.len() {
-        value = 10 * value + (digits[i] - 48) as u64;
+        value = 10 * value + (digits[i] - b'0') as u64;
         i += 1;
     }
     value
@@ -82,7 +82,7 @@ pub(crate) fn line_number(line: &[u8]) -> Number
     if line.len() == 0 {
         return Number::Illegal;
     }
-    if line[0] == 45 {
+    if line[0] == b'-' {
         return signed_number(true, &line[1..]);
     }
     signed_number(false, line)

@@ -17,7 +17,7 @@ use crate::decimal::put_field;
 use crate::decimal::put_signed;
 use spline::Position;
 
-const SPACE: u8 = 32;
+const SPACE: u8 = b' ';
 
 // How many values a part of the output has, and how many parts the longest output has with its first line.
 const LINES_OF_PART: usize = 3275;

@@ -13,7 +13,7 @@ use lib.IntN.{ℤ, pos, _*ℤ_}
 use lib.ListN.{length, length-map, List·getD-append}
 use lib.Seq.{ext-getD}
 use Rattle.bspline.specs.Exact.{PictureAccurate}
-use Rattle.bspline.specs.Outcomes.{badSide}
+use Rattle.bspline.specs.Outcomes.{outside}
 use Rattle.bspline.specs.Tables.{Shape, at, area, place, pixel}
 use Rattle.bspline.specs.Transforms.{firstPass, secondPass, pictureCoefficients}
 use Rattle.bspline.proofs.Lines.{coefficients-same}
@@ -26,10 +26,10 @@ use Rattle.spline.proofs.Rows.{raised-loaded, raised-small}
 use Rattle.bspline.proofs.Outcomes.{neither, one-to}
 
 -- ---- sides that are not refused
-pub good-sides : (d : Shape) → badSide (d .width) || badSide (d .height) ≡ false → GoodSides d
+pub good-sides : (d : Shape) → outside 512 (d .width) || outside 512 (d .height) ≡ false → GoodSides d
 good-sides d e =
-    let wide : badSide (d .width) ≡ false = neither (badSide (d .width)) (badSide (d .height)) e in
-    let high : badSide (d .height) ≡ false = rw wide at e in
+    let wide : outside 512 (d .width) ≡ false = neither (outside 512 (d .width)) (outside 512 (d .height)) e in
+    let high : outside 512 (d .height) ≡ false = rw wide at e in
     let w = one-to 512 (d .width) wide in
     let h = one-to 512 (d .height) high in
     record { wide = w .0; high = h .0; narrow = w .1; low = h .1 }

@@ -4,6 +4,7 @@
 // What an operation computes is defined in the crate `bspline` (specs/); specs/Answers.antt reads the enums below as its answers.
 mod buffers;
 mod filter;
+mod limits;
 mod lines;
 mod mirror;
 pub mod picture;

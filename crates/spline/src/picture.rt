@@ -9,7 +9,7 @@ ghost use Rattle.bspline.specs.Recursions.{margin};
 ghost use Rattle.bspline.specs.Tables.{pixel};
 ghost use Rattle.bspline.specs.Values.{dot, support};
 ghost use Rattle.bspline.specs.Exact.{PictureAccurate};
-ghost use Rattle.bspline.specs.Outcomes.{badSide, pictureTransform, pictureValue};
+ghost use Rattle.bspline.specs.Outcomes.{outside, pictureTransform, pictureValue};
 ghost use Rattle.spline.specs.Answers.{described, placed, valued, written, Promised};
 ghost use Rattle.spline.specs.Pictures.{sides, PictureBuffers, PictureFiltered};
 ghost use Rattle.spline.specs.Sums.{listed, sizes, PicturePart, Sums};
@@ -20,6 +20,7 @@ use crate::Valued;
 use crate::Written;
 use crate::buffers::clear;
 use crate::buffers::raise;
+use crate::limits::outside;
 use crate::lines::filter_lines;
 use crate::mirror::MARGIN;
 use crate::mirror::MARGINS;
@@ -34,18 +35,11 @@ use crate::sums::weights;
 
 const LONGEST_SIDE: usize = 512;
 
-// Whether a picture with a side of n is refused.
-fn bad_side(n: usize) -> bool
-    ensures { λ r. ⌜ r ≡ badSide n ⌝ }
-{
-    n == 0 || LONGEST_SIDE < n
-}
-
 // Whether a picture is refused for either of its sides.
 fn bad_sides(width: usize, height: usize) -> bool
-    ensures { λ r. ⌜ r ≡ (badSide width || badSide height) ⌝ }
+    ensures { λ r. ⌜ r ≡ (outside 512 width || outside 512 height) ⌝ }
 {
-    bad_side(width) || bad_side(height)
+    outside(LONGEST_SIDE, width) || outside(LONGEST_SIDE, height)
 }
 
 // The longer side: it decides how many words of work a picture takes.

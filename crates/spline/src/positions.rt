@@ -1,19 +1,18 @@
 // Which factors and positions are refused.
-ghost use mathlib.Core.Bool.{_||_};
 ghost use mathlib.Core.Path.{_≡_};
 ghost use Prim.Native.Nat.{_<_};
-ghost use lib.Dec.{eqb, ltb};
-ghost use Rattle.bspline.specs.Outcomes.{offData};
+ghost use Rattle.bspline.specs.Outcomes.{offData, outside};
 ghost use Rattle.spline.specs.Answers.{placed};
 use crate::Position;
+use crate::limits::outside;
 
 const GREATEST_FACTOR: usize = 16;
 
 // Whether a factor is refused.
 pub(crate) fn bad_factor(m: usize) -> bool
-    ensures { λ r. ⌜ r ≡ (eqb m 0 || ltb 16 m) ⌝ }
+    ensures { λ r. ⌜ r ≡ outside 16 m ⌝ }
 {
-    m == 0 || GREATEST_FACTOR < m
+    outside(GREATEST_FACTOR, m)
 }
 
 // Whether a position is off the n data.

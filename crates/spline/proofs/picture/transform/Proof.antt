@@ -8,7 +8,7 @@ use borrow.Author.Needs.{needs}
 use borrow.Author.Tests.{lt-ltb, le-ltb, eq-eqb, ne-eqb}
 use lib.ListN.{drop, length-replicate}
 use lib.Seq.{length-take-le}
-use Rattle.bspline.specs.Outcomes.{badSide, pictureTransform}
+use Rattle.bspline.specs.Outcomes.{outside, pictureTransform}
 use Rattle.bspline.specs.Recursions.{margin}
 use Rattle.bspline.specs.Tables.{Shape, area}
 use Rattle.bspline.specs.Transforms.{pictureCoefficients}
@@ -34,7 +34,7 @@ module _ (c : tie.Else1) where
   abbrev d : Shape
   d = described (start .args .shape)
 
-  sides : badSide (d .width) || badSide (d .height) ≡ false
+  sides : outside 512 (d .width) || outside 512 (d .height) ≡ false
   sides = sym (c .before .bad-sides .ensures) ∙ c .if1 .left
 
   good : GoodSides d

@@ -15,7 +15,7 @@ use mir.Facts.{toZ-ofZ}
 use mir.Syntax.{w32, w64}
 use mir.Val.{SFits}
 use Rattle.integers.specs.Rounding.{round}
-use Rattle.bspline.specs.Outcomes.{value, badSide, offData, pictureValue}
+use Rattle.bspline.specs.Outcomes.{value, offData, outside, pictureValue}
 use Rattle.bspline.specs.Tables.{Shape, area, pixel}
 use Rattle.bspline.specs.Values.{Position, pictureSum, valueInPicture}
 use Rattle.bspline.proofs.Bounds.{all-weaken}
@@ -45,7 +45,7 @@ module _ (c : tie.Else1) where
   abbrev d : Shape
   d = described (start .args .shape)
 
-  sides : badSide (d .width) || badSide (d .height) ≡ false
+  sides : outside 512 (d .width) || outside 512 (d .height) ≡ false
   sides = sym (c .before .bad-sides .ensures) ∙ c .if1 .left
 
   good : GoodSides d
@@ -81,7 +81,7 @@ module _ (c : tie.Else3) where
   counted : eqb (length numbers) (area (d sides-good)) ≡ true
   counted = eq-eqb _ _ (c .before .before .if2 .left)
 
-  factored : eqb m 0 || ltb 16 m ≡ false
+  factored : outside 16 m ≡ false
   factored = sym (c .before .bad-factor .ensures) ∙ c .if3 .left
 
 off-data-requires : tie.Need-off-data-requires
