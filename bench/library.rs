@@ -1,7 +1,7 @@
 //! The operations of the library, by its C functions: a slice passes as a pointer and a length.
 
 extern "C" {
-    fn spline_row_transform(
+    fn harness_row_transform(
         samples: *const i16,
         samples_length: usize,
         coefficients: *mut i32,
@@ -10,7 +10,7 @@ extern "C" {
         work_length: usize,
     ) -> i64;
 
-    fn spline_picture_transform(
+    fn harness_picture_transform(
         pixels: *const i16,
         pixels_length: usize,
         width: usize,
@@ -21,7 +21,7 @@ extern "C" {
         work_length: usize,
     ) -> i64;
 
-    fn spline_row_zoom(
+    fn harness_row_zoom(
         coefficients: *const i32,
         coefficients_length: usize,
         factor: usize,
@@ -33,7 +33,7 @@ extern "C" {
 pub fn row_transform(samples: &[i16], coefficients: &mut [i32], work: &mut [i64]) -> i64 {
     // SAFETY: each pointer and length are those of a slice, and the slices that are written are lent mutably.
     unsafe {
-        spline_row_transform(
+        harness_row_transform(
             samples.as_ptr(),
             samples.len(),
             coefficients.as_mut_ptr(),
@@ -53,7 +53,7 @@ pub fn picture_transform(
 ) -> i64 {
     // SAFETY: as above.
     unsafe {
-        spline_picture_transform(
+        harness_picture_transform(
             pixels.as_ptr(),
             pixels.len(),
             width,
@@ -69,7 +69,7 @@ pub fn picture_transform(
 pub fn row_zoom(coefficients: &[i32], factor: usize, values: &mut [i32]) -> i64 {
     // SAFETY: as above.
     unsafe {
-        spline_row_zoom(
+        harness_row_zoom(
             coefficients.as_ptr(),
             coefficients.len(),
             factor,

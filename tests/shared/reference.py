@@ -10,6 +10,11 @@ LONGEST_SIDE = 512
 FACTORS = range(1, 17)
 
 
+def work_words(line):
+    """How many words of work a transform takes whose longest line has so many numbers."""
+    return line + 2 * MARGIN
+
+
 def nearest(numerator, denominator):
     """The whole number nearest to the fraction, a tie going up; R(a) is nearest(a, 2 ** 31)."""
     return (2 * numerator + denominator) // (2 * denominator)

@@ -1,6 +1,6 @@
 """How an outside test builds what it tests, lends buffers, calls the library and counts its groups.
 
-What is tested is a program, or the library: the crate exports, built by the kit and linked into a shared library. A group of comparisons counts
+What is tested is a program, or the library: the crate harness, built by the kit and linked into a shared library. A group of comparisons counts
 as one test and runs in a process of its own, so that a crash or a call that never returns fails that group only.
 """
 import argparse
@@ -23,7 +23,7 @@ ROOT = os.path.dirname(os.path.dirname(os.path.dirname(os.path.abspath(__file__)
 SLICE = [ctypes.c_void_p, ctypes.c_size_t]
 SIZE = [ctypes.c_size_t]
 
-# The parameters of each exported function, which is spline_ and this name. Every one returns 64 bits.
+# The parameters of each exported function, which is harness_ and this name. Every one returns 64 bits.
 PARAMETERS = {
     "row_transform": 3 * SLICE,
     "picture_transform": SLICE + 2 * SIZE + 2 * SLICE,
@@ -92,7 +92,7 @@ class Library:
         library = ctypes.CDLL(file)
         self.functions = {}
         for operation, types in PARAMETERS.items():
-            function = getattr(library, "spline_" + operation, None)
+            function = getattr(library, "harness_" + operation, None)
             if function is not None:
                 function.argtypes = types
                 function.restype = ctypes.c_int64
@@ -226,7 +226,7 @@ def main(label, what, kind, definitions, groups):
     """Tests the library: runs the group of the test's own definitions and then, with a fresh object of this kind of tests each, the groups of
     every operation."""
     count = Count(label)
-    archive = file_to_test(count, what, "library", "rt staticlib exports", "target/staticlib/libexports.a", ("cc",))
+    archive = file_to_test(count, what, "library", "rt staticlib harness", "target/staticlib/libharness.a", ("cc",))
     if archive is None:
         count.finish()
     with tempfile.TemporaryDirectory() as room:
@@ -239,7 +239,7 @@ def main(label, what, kind, definitions, groups):
         run_group("the definitions in this test", definitions, kind(library), count)
         for operation, named in groups.items():
             if operation not in library.functions:
-                count.add(False, f"FAILED: spline_{operation} is not exported")
+                count.add(False, f"FAILED: harness_{operation} is not exported")
                 continue
             for name, group in named:
                 run_group(f"{operation}, {name}", group, kind(library), count)

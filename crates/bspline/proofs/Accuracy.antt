@@ -14,11 +14,12 @@ use lib.ListN.{length}
 use Rattle.integers.proofs.Absolute.{abs-add, abs-mul}
 use Rattle.integers.proofs.Linear.{reify, show}
 use Rattle.integers.proofs.Ring.{polys, ring}
-use Rattle.bspline.specs.Bounds.{AllWithin}
+use Rattle.bspline.specs.Bounds.{AllWithin, RowWithin, PictureWithin}
 use Rattle.bspline.specs.Exact.{Fractions, Solves, Grid, SolvesPicture, row, column, wholeGrid, Near, RowAccurate, PictureAccurate}
 use Rattle.bspline.specs.Mirror.{mirror}
 use Rattle.bspline.specs.Recursions.{margin, window, filtered, coefficient, coefficients}
-use Rattle.bspline.specs.Tables.{at, Shape, place, pixel}
+use Rattle.bspline.specs.PictureLayout.{Shape, pixel}
+use Rattle.bspline.specs.Lists.{at}
 use Rattle.bspline.specs.Transforms.{rowCoefficients, firstPass, secondPass, pictureCoefficients}
 use Rattle.bspline.proofs.Lines.{window-at, window-count, coefficients-at}
 use Rattle.bspline.proofs.Margin.{decay, Line, line-near}
@@ -26,7 +27,7 @@ use Rattle.bspline.proofs.Mirror.{mirror-below}
 use Rattle.bspline.proofs.Ranges.{window-within, filtered-within, loaded-range, first-pass-within}
 use Rattle.bspline.proofs.Residual.{Residual, filtered-residual}
 use Rattle.bspline.proofs.Steps.{coefficient-near}
-use Rattle.bspline.proofs.Tables.{raster-at}
+use Rattle.bspline.proofs.PictureLayout.{raster-at}
 
 -- ---- one line
 -- T, ρ and τ suit one another and the margin M: T is large enough for the ranges, ρ for the residual, and decay M for the gap at the window's ends
@@ -89,12 +90,12 @@ unfolding decay
 row-suits = record { large = lit≤ tt; residual = record { room = lit≤ tt }; ends = lit≤ tt }
 
 -- n samples, wherever they stand: within 47/32
-samples-accurate : (n : ℕ) (s : ℕ → ℤ) (c : Fractions) → 0 < n → ((k : ℕ) → natAbs (s k) ≤ 2 ^ 15) →
+samples-accurate : (n : ℕ) (s : ℕ → ℤ) (c : Fractions) → 0 < n → RowWithin (2 ^ 15) n s →
     Solves n (record { num = s; den = 1; above = lit< tt }) c →
     (k : ℕ) → k < n → Near 47 32 4096 (c .den) (c .num k) (at (coefficients n (λ k. pos 65536 *ℤ s k)) k)
 samples-accurate n s c some range solves =
     line-accurate (2 ^ 31) 5 0 row-suits n (λ k. pos 65536 *ℤ s k) _ c some
-    (λ k h. loaded-range 65536 (2 ^ 15) (s k) (range k)) (λ k h. exact (s k)) solves
+    (λ k h. loaded-range 65536 (2 ^ 15) (s k) (range .within k h)) (λ k h. exact (s k)) solves
   where
     none : (x : ℤ) → natAbs (pos 1 *ℤ (pos 65536 *ℤ x) -ℤ pos 65536 *ℤ x) ≤ 0
     none x = show (simp reify tt) (omega arith)
@@ -103,10 +104,10 @@ samples-accurate n s c some range solves =
     exact x = record { near = omega (arith, none x) }
 
 -- demand 3 for a row of samples
-pub row-accurate : (s : List ℤ) → 0 < length s → AllWithin (2 ^ 15) s → RowAccurate s (rowCoefficients s)
+pub row-accurate : (s : List ℤ) → 0 < length s → RowWithin (2 ^ 15) (length s) (at s) → RowAccurate s (rowCoefficients s)
 unfolding rowCoefficients
 row-accurate s some range = record {
-  accurate = λ c solves k h. record { near = omega (arith, samples-accurate (length s) (at s) c some (range .within) solves k h .near) };
+  accurate = λ c solves k h. record { near = omega (arith, samples-accurate (length s) (at s) c some range solves k h .near) };
 }
 
 -- ---- pictures
@@ -125,25 +126,27 @@ loaded-near D c x h = record {
   near = omega (arith, ap natAbs (loading-identity (pos D) x c), abs-mul (pos 16) (pos D *ℤ x -ℤ pos 4096 *ℤ c), h .near);
 }
 
-module _ (d : Shape) (p : List ℤ) (wide : 0 < d .width) (high : 0 < d .height) (range : AllWithin (2 ^ 15) p)
+module _ (d : Shape) (p : List ℤ) (wide : 0 < d .width) (high : 0 < d .height) (range : PictureWithin (2 ^ 15) d (pixel d p))
     (c : Grid) (solves : SolvesPicture (d .width) (d .height) (wholeGrid d p) c) where
   -- the first pass: within 47/32 of 4096 times the picture between
   first-pass-accurate : (x y : ℕ) → x < d .width → y < d .height → Near 47 32 4096 (solves .between .den) (solves .between .num x y) (firstPass d p x y)
   unfolding firstPass
   first-pass-accurate x y h g =
-      samples-accurate (d .width) (λ k. pixel d p k y) (row y (solves .between)) wide (λ k. range .within (place d k y)) (solves .rows y g) x h
+      samples-accurate (d .width) (λ k. pixel d p k y) (row y (solves .between)) wide
+      (record { within = λ k l. range .within k y l g }) (solves .rows y g) x h
 
   -- the second: within 215/32 of 4096 times the exact solution
   second-pass-accurate : (x y : ℕ) → x < d .width → y < d .height → Near 215 32 4096 (c .den) (c .num x y) (secondPass d p x y)
   unfolding secondPass
   second-pass-accurate x y h g =
       line-accurate (27 * 2 ^ 28) 9 24 column-suits (d .height) (λ k. pos 16 *ℤ firstPass d p x k) (column x (solves .between)) (column x c) high
-      (λ k l. loaded-range 16 (27 * 2 ^ 24) (firstPass d p x k) (first-pass-within d p wide range x k))
+      (λ k l. loaded-range 16 (27 * 2 ^ 24) (firstPass d p x k) (first-pass-within d p wide range x k l))
       (λ k l. loaded-near (solves .between .den) (solves .between .num x k) (firstPass d p x k) (first-pass-accurate x k h l))
       (solves .columns x h) y g
 
 -- demand 3 for a picture of pixels
-pub picture-accurate : (d : Shape) (p : List ℤ) → 0 < d .width → 0 < d .height → AllWithin (2 ^ 15) p → PictureAccurate d p (pictureCoefficients d p)
+pub picture-accurate : (d : Shape) (p : List ℤ) → 0 < d .width → 0 < d .height → PictureWithin (2 ^ 15) d (pixel d p) →
+    PictureAccurate d p (pictureCoefficients d p)
 unfolding pictureCoefficients
 picture-accurate d p wide high range = record {
   accurate = λ c solves x y h g.

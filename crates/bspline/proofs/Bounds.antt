@@ -7,8 +7,9 @@ use native.Mathlib.Decide.{decLt}
 use native.Mathlib.Omega.{arith}
 use lib.IntN.{ℤ, pos, natAbs}
 use lib.ListN.{length, List·getD-eq-default}
+use Rattle.integers.specs.Bound.{Within}
 use Rattle.bspline.specs.Bounds.{AllWithin}
-use Rattle.bspline.specs.Tables.{at, tabulate}
+use Rattle.bspline.specs.Lists.{at, tabulate}
 
 -- the empty list is within every bound
 pub nil-within : (B : ℕ) → AllWithin B []
@@ -21,6 +22,10 @@ cons-within {B} {x} {l} h g = record { within = each }
     each : (k : ℕ) → natAbs (at (x ∷ l) k) ≤ B
     each zero = h
     each (suc k) = g .within k
+
+-- four numbers within it
+pub four-within : {B : ℕ} {a b c d : ℤ} → Within B a → Within B b → Within B c → Within B d → AllWithin B (a ∷ b ∷ c ∷ d ∷ [])
+four-within {B} p q r s = cons-within (p .within) (cons-within (q .within) (cons-within (r .within) (cons-within (s .within) (nil-within B))))
 
 -- the list after its first number
 pub rest-within : {B : ℕ} {x : ℤ} {l : List ℤ} → AllWithin B (x ∷ l) → AllWithin B l

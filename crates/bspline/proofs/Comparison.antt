@@ -8,7 +8,7 @@ use mathlib.Core.Logic.{_⊎_, inl, inr}
 use Prim.Native.Nat.{ℕ, zero, suc, _+_, _*_, _≤_, _<_}
 use native.Mathlib.Decide.{decLe}
 use native.Mathlib.Omega.{arith}
-use Rattle.bspline.proofs.Below.{below-suc}
+use borrow.Author.Count.{below-none, below-more}
 
 module _ (a h : ℕ → ℕ) where
   -- a - h is no greater at i than at k
@@ -23,12 +23,12 @@ module _ (a h : ℕ → ℕ) where
 
   -- with one place more, the peak stays or is the new place
   higher : (n : ℕ) (p : Peak n) → Dec (Beneath (p .place) n) → Peak (suc n)
-  higher n p (yes l) = record { place = p .place; below = omega arith; greatest = below-suc n (Beneath (p .place)) (p .greatest) l }
-  higher n p (no l) = record { place = n; below = omega arith; greatest = below-suc n (Beneath n) (λ i u. omega (arith, p .greatest i u)) (omega arith) }
+  higher n p (yes l) = record { place = p .place; below = omega arith; greatest = λ i u. below-more (Beneath (p .place)) n (p .greatest) l i (omega arith) }
+  higher n p (no l) = record { place = n; below = omega arith; greatest = λ i u. below-more (Beneath n) n (λ i u. omega (arith, p .greatest i u)) (omega arith) i (omega arith) }
 
   -- there is one, of one place or more
   peak : (n : ℕ) → Peak (suc n)
-  peak zero = record { place = 0; below = omega arith; greatest = below-suc 0 (Beneath 0) (λ i u. absurd (omega arith)) (omega arith) }
+  peak zero = record { place = 0; below = omega arith; greatest = λ i u. below-more (Beneath 0) 0 (below-none (Beneath 0)) (omega arith) i (omega arith) }
   peak (suc n) = higher (suc n) (peak n) (decLe (a (suc n) + h (peak n .place)) (a (peak n .place) + h (suc n)))
 
 -- a at k is held down by a at two places i and j below n and by a source g, and h leaves room for that

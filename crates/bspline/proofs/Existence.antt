@@ -9,13 +9,13 @@ use mathlib.Core.Path.{_≡_, refl, ap, _∙_}
 use Prim.Native.Nat.{ℕ, zero, suc, _*_, _≤_, _<_}
 use native.Mathlib.Nat.{mul-pos}
 use native.Mathlib.Omega.{arith, by-contra}
+use borrow.Author.Count.{below-more}
 use lib.Dec.{lit<}
 use lib.IntN.{ℤ, pos, negsuc, natAbs, _+ℤ_, _-ℤ_, _*ℤ_}
 use Rattle.integers.proofs.Laws.{times}
 use Rattle.integers.proofs.Linear.{reify, show}
 use Rattle.integers.proofs.Ring.{polys, ring}
 use Rattle.bspline.specs.Exact.{Fractions, tridiagonal, Solves, Grid, SolvesPicture, row, column}
-use Rattle.bspline.proofs.Below.{below-suc}
 use Rattle.bspline.proofs.Mirror.{mirror-is, mirror-own, mirror-unique, reflected}
 use Rattle.bspline.proofs.Stability.{tridiagonal-at, tridiagonal-linear, stable}
 
@@ -77,10 +77,10 @@ unfolding determinant free shoot
 determinant-above j = by-contra 1 (natAbs (determinant j)) (λ none. omega (arith, stable (suc j) 1 free 0 (flat none) 0 (omega arith)))
   where
     flat : natAbs (determinant j) < 1 → (k : ℕ) → k < suc j → 1 * natAbs (tridiagonal (suc j) free (pos k)) ≤ 0
-    flat none =
-        below-suc j (λ k. 1 * natAbs (tridiagonal (suc j) free (pos k)) ≤ 0)
+    flat none k l =
+        below-more (λ k. 1 * natAbs (tridiagonal (suc j) free (pos k)) ≤ 0) j
         (λ k l. rw (free-solves (suc j) k (omega arith)) (omega arith))
-        (omega arith)
+        (omega arith) k (omega arith)
 
 -- ---- the solution of a row of n
 -- m² driven - m r free
@@ -108,7 +108,7 @@ unfolding numerators scale determinant excess
 numerators-solve zero s k l = absurd (omega arith)
 numerators-solve (suc j) s k l =
     tridiagonal-linear (suc j) (m *ℤ m) (m *ℤ excess j s) (driven s) free (pos k)
-    ∙ below-suc j Solved inner last k l
+    ∙ below-more Solved j inner last k (omega arith)
     ∙ ap (λ z. z *ℤ (pos 6 *ℤ s k)) (square m)
   where
     m : ℤ

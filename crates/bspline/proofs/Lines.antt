@@ -13,10 +13,10 @@ use lib.Seq.{length-take-le, getD-take, getD-drop}
 use Rattle.integers.proofs.Linear.{reify, show}
 use Rattle.bspline.specs.Mirror.{mirror}
 use Rattle.bspline.specs.Recursions.{margin, window, causal, forward, anticausal, first, backward, filtered, coefficient, delivered, coefficients}
-use Rattle.bspline.specs.Tables.{at}
+use Rattle.bspline.specs.Lists.{at}
 use Rattle.bspline.proofs.Mirror.{mirror-below}
 use Rattle.bspline.proofs.Steps.{coefficient-zero}
-use Rattle.bspline.proofs.Tables.{tabulate-length, tabulate-from-zero, tabulate-same}
+use Rattle.bspline.proofs.Lists.{tabulate-length, tabulate-from-zero, tabulate-same}
 
 -- ---- the causal recursion
 -- there is one p for each t

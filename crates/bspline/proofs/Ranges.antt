@@ -3,20 +3,19 @@
 -- 27/100 × (3T/2 + 9T/16) + 1/2 ≤ 9T/16, from T = 100 on. So the bounds hold along the whole line, by induction over the lists, and every product fits
 -- 64 bits. A bound is the whole number at or below the fraction: |p| ≤ 3T/2 is the same as natAbs p ≤ 3 * T / 2. Assumes nothing.
 use mathlib.Core.List.{List, [], _∷_}
-use mathlib.Core.Path.{_≡_, refl}
-use Prim.Native.Nat.{ℕ, _+_, _*_, _/_, _%_, _^_, _≤_, _<_}
+use Prim.Native.Nat.{ℕ, _+_, _*_, _/_, _^_, _≤_, _<_}
 use native.Mathlib.Nat.{le-refl}
 use native.Mathlib.Omega.{arith}
 use lib.Dec.{lit≤}
 use lib.IntN.{ℤ, pos, natAbs, _-ℤ_, _*ℤ_}
-use lib.ListN.{length}
 use Rattle.integers.proofs.Absolute.{abs-sub, abs-mul, abs-mul≤}
 use Rattle.integers.proofs.Linear.{reify, read, show}
-use Rattle.bspline.specs.Bounds.{AllWithin}
+use Rattle.bspline.specs.Bounds.{AllWithin, PictureWithin}
 use Rattle.bspline.specs.Mirror.{mirror}
 use Rattle.bspline.specs.Recursions.{margin, Z, window, causal, forward, anticausal, first, backward, filtered, coefficient, coefficients}
-use Rattle.bspline.specs.Tables.{at, Shape, area, place, pixel, raster}
-use Rattle.bspline.specs.Transforms.{rowCoefficients, firstPass, secondPass, pictureCoefficients}
+use Rattle.bspline.specs.PictureLayout.{Shape, pixel}
+use Rattle.bspline.specs.Lists.{at}
+use Rattle.bspline.specs.Transforms.{firstPass}
 use Rattle.bspline.proofs.Bounds.{nil-within, cons-within, rest-within, tabulate-within, places-within}
 use Rattle.bspline.proofs.Lines.{coefficients-length, coefficients-at}
 use Rattle.bspline.proofs.Mirror.{mirror-below}
@@ -74,21 +73,6 @@ module _ (T : ℕ) (large : 100 ≤ T) where
         each : (k : ℕ) → k < n → natAbs (at (coefficients n t) k) ≤ (27 * T + 64) / 128
         each k h = rw (coefficients-at n t k h) (coefficient-range (at (filtered n t) (k + margin)) (filtered-within .within (k + margin)))
 
--- ---- the numbers of the two passes
--- where t is at most T from 0, p, b and C are at most P, B and C from 0
-pub record Numbers (T P B C : ℕ) : Type 0 where
-  pub of-p : 3 * T / 2 ≡ P
-  pub of-b : 9 * T / 16 ≡ B
-  pub of-C : (27 * T + 64) / 128 ≡ C
-
--- a row: t is 65536 times a sample, which is at most 2^15 from 0
-pub row-numbers : Numbers (2 ^ 31) (3 * 2 ^ 30) (9 * 2 ^ 27) (27 * 2 ^ 24)
-row-numbers = record { of-p = refl; of-b = refl; of-C = refl }
-
--- a column: t is 16 times a coefficient of a row
-pub column-numbers : Numbers (27 * 2 ^ 28) (81 * 2 ^ 27) (243 * 2 ^ 24) (729 * 2 ^ 21)
-column-numbers = record { of-p = refl; of-b = refl; of-C = refl }
-
 -- the greatest number of all: Z × (p - b) of a column fits 64 bits, with room for twice the 2^31 that it is divided by
 pub product-fits : (p b : ℤ) → natAbs p ≤ 81 * 2 ^ 27 → natAbs b ≤ 243 * 2 ^ 24 → natAbs (Z *ℤ (p -ℤ b)) + 2 ^ 32 ≤ 2 ^ 63
 product-fits p b h g = omega (arith, abs-mul Z (p -ℤ b), abs-sub p b)
@@ -98,26 +82,9 @@ product-fits p b h g = omega (arith, abs-mul Z (p -ℤ b), abs-sub p b)
 pub loaded-range : (m B : ℕ) (x : ℤ) → natAbs x ≤ B → natAbs (pos m *ℤ x) ≤ m * B
 loaded-range m B x h = abs-mul≤ (pos m) x (le-refl m) h
 
--- every coefficient of a row of samples
-pub row-within : (s : List ℤ) → 0 < length s → AllWithin (2 ^ 15) s → AllWithin (27 * 2 ^ 24) (rowCoefficients s)
-unfolding rowCoefficients
-row-within s some h = coefficients-within (2 ^ 31) (lit≤ tt) (length s) _ some (λ k l. loaded-range 65536 (2 ^ 15) (at s k) (h .within k))
-
 -- every coefficient of a picture after its first pass, the rows
-pub first-pass-within : (d : Shape) (p : List ℤ) → 0 < d .width → AllWithin (2 ^ 15) p → (x y : ℕ) → natAbs (firstPass d p x y) ≤ 27 * 2 ^ 24
+pub first-pass-within : (d : Shape) (p : List ℤ) → 0 < d .width → PictureWithin (2 ^ 15) d (pixel d p) →
+    (x y : ℕ) → y < d .height → natAbs (firstPass d p x y) ≤ 27 * 2 ^ 24
 unfolding firstPass
-first-pass-within d p wide h x y =
-    coefficients-within (2 ^ 31) (lit≤ tt) (d .width) _ wide (λ k l. loaded-range 65536 (2 ^ 15) (pixel d p k y) (h .within (place d k y))) .within x
-
--- and after its second, the columns
-pub second-pass-within : (d : Shape) (p : List ℤ) → 0 < d .width → 0 < d .height → AllWithin (2 ^ 15) p → (x y : ℕ) → natAbs (secondPass d p x y) ≤ 729 * 2 ^ 21
-unfolding secondPass
-second-pass-within d p wide high h x y =
-    coefficients-within (27 * 2 ^ 28) (lit≤ tt) (d .height) _ high
-    (λ k l. loaded-range 16 (27 * 2 ^ 24) (firstPass d p x k) (first-pass-within d p wide h x k)) .within y
-
--- every coefficient of a picture of pixels
-pub picture-within : (d : Shape) (p : List ℤ) → 0 < d .width → 0 < d .height → AllWithin (2 ^ 15) p → AllWithin (729 * 2 ^ 21) (pictureCoefficients d p)
-unfolding pictureCoefficients raster
-picture-within d p wide high h =
-    tabulate-within (729 * 2 ^ 21) _ 0 (area d) (λ i l. second-pass-within d p wide high h (i % d .width) (i / d .width))
+first-pass-within d p wide h x y g =
+    coefficients-within (2 ^ 31) (lit≤ tt) (d .width) _ wide (λ k l. loaded-range 65536 (2 ^ 15) (pixel d p k y) (h .within k y l g)) .within x

@@ -12,7 +12,7 @@ use Rattle.integers.proofs.Absolute.{abs-add, abs-sub, abs-mul}
 use Rattle.integers.proofs.Ring.{polys, ring}
 use Rattle.bspline.specs.Bounds.{AllWithin}
 use Rattle.bspline.specs.Recursions.{Z, forward, backward}
-use Rattle.bspline.specs.Tables.{at}
+use Rattle.bspline.specs.Lists.{at}
 use Rattle.bspline.proofs.Lines.{forward-length, forward-at, backward-at}
 use Rattle.bspline.proofs.Steps.{Q, causal-near, anticausal-near}
 

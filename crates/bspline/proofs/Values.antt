@@ -17,7 +17,8 @@ use Rattle.integers.proofs.Linear.{reify, show}
 use Rattle.integers.proofs.Ring.{polys, ring, read-poly, show-poly}
 use Rattle.integers.proofs.Rounding.{round-near}
 use Rattle.bspline.specs.Exact.{Fractions, tridiagonal, Solves, Grid, row, column, SolvesPicture, whole, wholeGrid, Near, RowAccurate, PictureAccurate}
-use Rattle.bspline.specs.Tables.{Shape, at, pixel}
+use Rattle.bspline.specs.PictureLayout.{Shape, pixel}
+use Rattle.bspline.specs.Lists.{at}
 use Rattle.bspline.specs.Values.{Position, rowSum, pictureSum, valueInRow, valueInPicture, RowValueAccurate, PictureValueAccurate}
 use Rattle.bspline.proofs.Existence.{solution, solution-solves, picture-solution, picture-solves}
 use Rattle.bspline.proofs.Weights.{sixth, sum-near, picture-sum-near, sum-same, sum-at-sample, sums-exchanged}

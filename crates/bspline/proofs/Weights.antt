@@ -1,22 +1,27 @@
 -- The four weights of "Values between samples", and the weighted sums of a row and of a picture. For j ≤ m the weights are natural numbers, which
--- add up to 6m³. So a weighted sum of numbers within B is within 6m³ × B, and the weighted sums of two rows that differ by at most B
--- differ by at most 6m³ × B. A picture's sum is the sum along a column of sums along rows, so there the factor is 6m³ × 6m³ = 36m⁶.
+-- add up to 6m³. So a weighted sum of numbers within B is within 6m³ × B (`weighted-within`), and the weighted sums of two rows that differ by at
+-- most B differ by at most 6m³ × B. A picture's sum is the sum along a column of sums along rows, so there the factor is 6m³ × 6m³ = 36m⁶.
 -- At a sample, j = 0, a row's sum is m³ times the 1-4-1 sum. Assumes nothing.
 use mathlib.Core.List.{List, [], _∷_, map, foldr}
 use mathlib.Core.Path.{_≡_, refl, sym, ap, ap₂, subst, _∙_}
 use Prim.Native.Nat.{ℕ, suc, _+_, _-_, _*_, _^_, _≤_, _<_}
-use native.Mathlib.Nat.{pow-zero, pow-suc, mul-le-mul-left, add-sub-of-le}
+use native.Mathlib.Nat.{add-zero, zero-add, pow-zero, pow-suc, mul-le-mul, mul-le-mul-left, add-sub-of-le}
 use native.Mathlib.Omega.{arith}
 use lib.IntN.{ℤ, pos, natAbs, _+ℤ_, _-ℤ_, _*ℤ_}
 use lib.ListN.{length}
+use Rattle.integers.specs.Rounding.{round}
 use Rattle.integers.proofs.Absolute.{abs-add, abs-mul, abs-zero}
 use Rattle.integers.proofs.Laws.{diff-zero, zero-diff}
 use Rattle.integers.proofs.Linear.{reify, show}
 use Rattle.integers.proofs.Ring.{polys, ring}
+use Rattle.bspline.specs.Bounds.{AllWithin, sizes}
 use Rattle.bspline.specs.Exact.{tridiagonal}
+use Rattle.bspline.specs.Limits.{greatestFactor}
 use Rattle.bspline.specs.Mirror.{mirror}
-use Rattle.bspline.specs.Tables.{tabulate, Shape}
-use Rattle.bspline.specs.Values.{Position, cube, weights, support, dot, rowSum, pictureSum}
+use Rattle.bspline.specs.PictureLayout.{Shape}
+use Rattle.bspline.specs.Lists.{tabulate, at}
+use Rattle.bspline.specs.Values.{Position, cube, weights, support, dot, rowSum, pictureSum, valueInRow}
+use Rattle.bspline.proofs.Bounds.{rest-within}
 use Rattle.bspline.proofs.Mirror.{mirror-below}
 
 -- ---- powers
@@ -72,7 +77,64 @@ weights-total m j l = added (m - j) ∙ ap (λ m. 6 * m ^ 3) (add-sub-of-le l)
     added : (d : ℕ) → total (natural-weights j d) ≡ 6 * (j + d) ^ 3
     added d = simp (squared, cubed) (omega arith)
 
--- ---- weighted sums
+-- ---- the weights as polynomials of integers
+-- the weights, with products for powers
+abbrev pub weights-of : ℤ → ℤ → List ℤ
+weights-of m j =
+    cube (m -ℤ j)
+    ∷ (pos 3 *ℤ cube j -ℤ pos 6 *ℤ (j *ℤ j) *ℤ m +ℤ pos 4 *ℤ cube m)
+    ∷ (pos 3 *ℤ (j *ℤ j) *ℤ m +ℤ pos 3 *ℤ j *ℤ (m *ℤ m) +ℤ cube m -ℤ pos 3 *ℤ cube j)
+    ∷ cube j
+    ∷ []
+
+pub weights-products : (m j : ℕ) → weights m j ≡ weights-of (pos m) (pos j)
+unfolding weights
+weights-products m j = simp (squared, cubed) refl
+
+-- ---- the size of a weighted sum of any four numbers
+-- natural numbers are their own sizes
+sizes-natural : (u : List ℕ) → sizes (map pos u) ≡ total u
+sizes-natural [] = refl
+sizes-natural (n ∷ u) = ap (λ s. n + s) (sizes-natural u)
+
+-- the weights' sizes add up to 6m³
+pub weights-sizes : (m j : ℕ) → j ≤ m → sizes (weights m j) ≡ 6 * m ^ 3
+weights-sizes m j h = ap sizes (weights-natural m j h) ∙ sizes-natural (natural-weights j (m - j)) ∙ weights-total m j h
+
+-- 24,576 is the total at factor 16
+pub weights-light : (m j : ℕ) {w : List ℤ} → w ≡ weights m j → m ≤ greatestFactor → j ≤ m → sizes w ≤ 24576
+weights-light m j e l h = rw e (omega (arith, weights-sizes m j h, cubed m, mul-le-mul (mul-le-mul l l) l))
+
+-- a sum is at most as great as the weights' sizes times the greatest number
+pub dot-size : (w c : List ℤ) (B : ℕ) → AllWithin B c → natAbs (dot w c) ≤ sizes w * B
+dot-size [] c B h = omega arith
+dot-size (a ∷ w) [] B h = omega arith
+dot-size (a ∷ w) (b ∷ c) B h =
+    omega (arith, abs-add (a *ℤ b) (dot w c), abs-mul a b, mul-le-mul-left (natAbs a) (h .within 0), dot-size w c B (rest-within h))
+
+pub weighted-within : (m j B : ℕ) (l : List ℤ) → j ≤ m → AllWithin B l → natAbs (dot (weights m j) l) ≤ 6 * m ^ 3 * B
+weighted-within m j B l h g = rw (sym (weights-sizes m j h)) (dot-size (weights m j) l B g)
+
+-- ---- the four numbers that are weighted, by their indices k - 1 to k + 2
+pub support-is : (n k : ℕ) (f : ℕ → ℤ) {a b c d : ℤ} →
+    a ≡ f (mirror n (pos k -ℤ pos 1)) → b ≡ f (mirror n (pos (k + 1) -ℤ pos 1)) →
+    c ≡ f (mirror n (pos (k + 2) -ℤ pos 1)) → d ≡ f (mirror n (pos (k + 3) -ℤ pos 1)) → a ∷ b ∷ c ∷ d ∷ [] ≡ support n f k
+unfolding tabulate
+support-is n k f p q r s =
+    ap₂ _∷_ (p ∙ ap (λ i. f (mirror n (pos i -ℤ pos 1))) (sym (add-zero k))) (ap₂ _∷_ q (ap₂ _∷_ r (ap₂ _∷_ s refl)))
+
+-- a whole row is the part of itself from 0 on
+support-whole : (n k : ℕ) (c : List ℤ) → support n (λ i. at c (0 + i)) k ≡ support n (at c) k
+unfolding tabulate
+support-whole n k c = simp zero-add
+
+-- the row value is rounded from their weighted sum
+pub value-between : (m k j : ℕ) (c l : List ℤ) → l ≡ support (length c) (λ i. at c (0 + i)) k →
+    round (dot (weights m j) l) (96 * m ^ 3) ≡ valueInRow m c (record { k = k; j = j })
+unfolding valueInRow rowSum
+value-between m k j c l e = ap (λ l. round (dot (weights m j) l) (96 * m ^ 3)) (e ∙ support-whole (length c) k c)
+
+-- ---- how far apart weighted sums are
 module _ (D X : ℕ) where
   -- D × a - X × b is at most B in size
   abbrev Apart : ℕ → ℤ → ℤ → Type 0
@@ -134,23 +196,6 @@ picture-sum-near m d px py lx ly wide high f g D X B h =
     -- the sum along row y
     along : (ℕ → ℕ → ℤ) → ℕ → ℤ
     along c y = rowSum m (d .width) (λ x. c x y) px
-
--- one number alone, as a distance from 0 times another
-alone : (x y : ℤ) → pos 1 *ℤ x -ℤ pos 0 *ℤ y ≡ x
-alone x y = show (simp reify tt) (omega arith)
-
--- the weighted sum of a row of n numbers that are within B is within 6m³ × B
-pub sum-within : (m n : ℕ) (p : Position) → p .j ≤ m → 0 < n → (f : ℕ → ℤ) (B : ℕ) → ((i : ℕ) → i < n → natAbs (f i) ≤ B) →
-    natAbs (rowSum m n f p) ≤ 6 * m ^ 3 * B
-sum-within m n p l some f B h =
-    rw (alone (rowSum m n f p) (rowSum m n f p)) at (sum-near m n p l some f f 1 0 B (λ i u. rw (alone (f i) (f i)) (h i u)))
-
--- the weighted sum of a picture of numbers that are within B is within 36m⁶ × B
-pub picture-sum-within : (m : ℕ) (d : Shape) (px py : Position) → px .j ≤ m → py .j ≤ m → 0 < d .width → 0 < d .height →
-    (f : ℕ → ℕ → ℤ) (B : ℕ) → ((x y : ℕ) → x < d .width → y < d .height → natAbs (f x y) ≤ B) → natAbs (pictureSum m d f px py) ≤ 36 * m ^ 6 * B
-picture-sum-within m d px py lx ly wide high f B h =
-    rw (alone (pictureSum m d f px py) (pictureSum m d f px py)) at
-    (picture-sum-near m d px py lx ly wide high f f 1 0 B (λ x y u v. rw (alone (f x y) (f x y)) (h x y u v)))
 
 -- rows that are equal up to the factors D and X have sums that are: the distance 0
 pub sum-same : (m n : ℕ) (p : Position) → p .j ≤ m → 0 < n → (f g : ℕ → ℤ) (D X : ℕ) → ((i : ℕ) → i < n → pos D *ℤ f i ≡ pos X *ℤ g i) →

@@ -2,7 +2,9 @@
 -- only ones: whatever solves the equations of the listed data equals the listed numbers, by uniqueness. Assumes nothing.
 use mathlib.Core.List.{List, [], _∷_, List·Memᴰ, List·Memᴰ·head, List·Memᴰ·tail}
 use mathlib.Core.Path.{refl}
-use Prim.Native.Nat.{ℕ}
+use Prim.Native.Nat.{ℕ, zero, suc, _<_}
+use native.Mathlib.Omega.{arith}
+use borrow.Author.Count.{below-none, below-more}
 use lib.IntN.{pos, negℤ}
 use lib.ListN.{length}
 use Rattle.integers.specs.Rounding.{round}
@@ -10,11 +12,20 @@ use Rattle.bspline.specs.Examples.{Example, rounds, reads, solves, solve
 use Rattle.bspline.specs.Exact.{Fractions, tridiagonal, Equation, Solves, Grid, SolvesPicture, row, column, whole, wholeGrid}
 use Rattle.bspline.specs.Mirror.{mirror}
 use Rattle.bspline.specs.Recursions.{R, causal, forward, anticausal, backward, coefficient, delivered, coefficients}
-use Rattle.bspline.specs.Tables.{tabulate}
+use Rattle.bspline.specs.Lists.{tabulate}
 use Rattle.bspline.specs.Transforms.{rowCoefficients}
 use Rattle.bspline.specs.Values.{weights}
-use Rattle.bspline.proofs.Below.{Each, each}
 use Rattle.bspline.proofs.Uniqueness.{unique, picture-unique}
+
+-- P 0, .., P (n - 1), the last first
+abbrev Each : ℕ → (ℕ → Type 0) → Type 0
+Each zero P = Unit
+Each (suc n) P = P n × Each n P
+
+-- each of them by its place
+each : (n : ℕ) (P : ℕ → Type 0) → Each n P → (k : ℕ) → k < n → P k
+each zero P e k l = below-none P k l
+each (suc n) P e k l = below-more P n (each n P (e .1)) (e .0) k (omega arith)
 
 -- a row's equations, one after the other
 equations-solve : (n : ℕ) (s c : Fractions) → Each n (Equation n s c) → Solves n s c

@@ -7,7 +7,8 @@ use lib.Dec.{lit<}
 use lib.IntN.{ℤ, pos, natAbs, _+ℤ_, _-ℤ_, _*ℤ_}
 use lib.ListN.{length}
 use Rattle.bspline.specs.Mirror.{mirror}
-use Rattle.bspline.specs.Tables.{Shape, at, pixel}
+use Rattle.bspline.specs.PictureLayout.{Shape, pixel}
+use Rattle.bspline.specs.Lists.{at}
 
 -- A row of fractions with one common denominator. Its places are k = 0 to n - 1
 pub record Fractions : Type 0 where

@@ -10,7 +10,7 @@ use lib.ListN.{length}
 use Rattle.bspline.specs.Exact.{Fractions, Same, Solves, Grid, SameGrid, SolvesPicture, over, whole, wholeGrid}
 use Rattle.bspline.specs.Mirror.{mirror}
 use Rattle.bspline.specs.Recursions.{R}
-use Rattle.bspline.specs.Tables.{Shape}
+use Rattle.bspline.specs.PictureLayout.{Shape}
 use Rattle.bspline.specs.Transforms.{rowCoefficients}
 use Rattle.bspline.specs.Values.{weights}
 

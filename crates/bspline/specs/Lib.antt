@@ -1,10 +1,13 @@
 -- What the library computes, in the order of docs/SPECIFICATION.md. The contracts of the crate `spline` cite these definitions.
-pub mod Tables
+pub mod Lists
+pub mod PictureLayout
 pub mod Bounds
 pub mod Mirror
 pub mod Exact
 pub mod Recursions
 pub mod Transforms
 pub mod Values
+pub mod Limits
+pub mod Refusals
 pub mod Outcomes
 pub mod Examples

@@ -6,7 +6,7 @@ use lib.IntN.{ℤ, pos, _-ℤ_, _*ℤ_}
 use lib.ListN.{take, drop}
 use Rattle.integers.specs.Rounding.{round}
 use Rattle.bspline.specs.Mirror.{mirror}
-use Rattle.bspline.specs.Tables.{tabulate}
+use Rattle.bspline.specs.Lists.{tabulate}
 
 -- how far past each end of the line the recursions run
 abbrev pub margin : ℕ

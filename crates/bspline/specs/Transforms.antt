@@ -4,7 +4,8 @@ use Prim.Native.Nat.{ℕ}
 use lib.IntN.{ℤ, pos, _*ℤ_}
 use lib.ListN.{length}
 use Rattle.bspline.specs.Recursions.{coefficients}
-use Rattle.bspline.specs.Tables.{Shape, at, pixel, raster}
+use Rattle.bspline.specs.PictureLayout.{Shape, pixel, raster}
+use Rattle.bspline.specs.Lists.{at}
 
 -- a row of samples: t[k] = 65536 × s[k]
 unfoldable pub rowCoefficients : List ℤ → List ℤ

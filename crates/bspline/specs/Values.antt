@@ -6,7 +6,8 @@ use lib.ListN.{length}
 use Rattle.integers.specs.Rounding.{round}
 use Rattle.bspline.specs.Exact.{Fractions, Solves, Grid, SolvesPicture, whole, wholeGrid, Near}
 use Rattle.bspline.specs.Mirror.{mirror}
-use Rattle.bspline.specs.Tables.{Shape, tabulate, at, pixel}
+use Rattle.bspline.specs.PictureLayout.{Shape, pixel}
+use Rattle.bspline.specs.Lists.{tabulate, at}
 
 -- A position: whole part k and numerator j over a factor m, meaning k + j/m
 pub record Position : Type 0 where

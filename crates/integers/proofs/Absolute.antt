@@ -6,7 +6,6 @@ use Prim.Native.Nat.{ℕ, zero, suc, _+_, _*_, _^_, _≤_, _<_}
 use native.Mathlib.Nat.{mul-le-mul, le-trans, le-of-eq}
 use native.Mathlib.Omega.{arith}
 use lib.IntN.{ℤ, pos, negsuc, _+ℤ_, _-ℤ_, _*ℤ_, negℤ, natAbs}
-use lib.Signed.{_≤ℤ_}
 use mir.Syntax.{Width}
 use mir.Val.{SFits, hbits}
 use Rattle.integers.specs.Bound.{Within}
@@ -22,24 +21,10 @@ abs-add x y = show (simp reify tt) (omega (arith, natAbs-nat x, natAbs-nat y))
 pub abs-sub : (x y : ℤ) → natAbs (x -ℤ y) ≤ natAbs x + natAbs y
 abs-sub x y = show (simp reify tt) (omega (arith, natAbs-nat x, natAbs-nat y))
 
--- from x to z by way of y
-pub abs-triangle : (x y z : ℤ) → natAbs (x -ℤ z) ≤ natAbs (x -ℤ y) + natAbs (y -ℤ z)
-abs-triangle x y z = through (x -ℤ y) (y -ℤ z) (show (simp reify tt) (omega arith))
-  where
-    through : (u v : ℤ) → x -ℤ z ≡ u +ℤ v → natAbs (x -ℤ z) ≤ natAbs u + natAbs v
-    through u v e = rw e (abs-add u v)
-
 pub abs-neg : (x : ℤ) → natAbs (negℤ x) ≡ natAbs x
 abs-neg (pos zero) = refl
 abs-neg (pos (suc n)) = refl
 abs-neg (negsuc n) = refl
-
--- x - y and y - x are as far from 0
-pub abs-swap : (x y : ℤ) → natAbs (x -ℤ y) ≡ natAbs (y -ℤ x)
-abs-swap x y = rw opposite (abs-neg (y -ℤ x))
-  where
-    opposite : x -ℤ y ≡ negℤ (y -ℤ x)
-    opposite = show (simp reify tt) (omega arith)
 
 pub abs-mul : (x y : ℤ) → natAbs (x *ℤ y) ≡ natAbs x * natAbs y
 abs-mul (pos a) (pos b) = refl
@@ -49,14 +34,6 @@ abs-mul (negsuc a) (negsuc b) = refl
 
 pub abs-mul≤ : (x y : ℤ) {A B : ℕ} → natAbs x ≤ A → natAbs y ≤ B → natAbs (x *ℤ y) ≤ A * B
 abs-mul≤ x y h k = le-trans (le-of-eq (abs-mul x y)) (mul-le-mul h k)
-
--- ---- |x| ≤ B is -B ≤ x ≤ B
-
-pub abs-between : (x : ℤ) (B : ℕ) → negℤ (pos B) ≤ℤ x → x ≤ℤ pos B → natAbs x ≤ B
-abs-between x B = show (simp reify tt) (omega arith)
-
-pub between-abs : (x : ℤ) (B : ℕ) → natAbs x ≤ B → (negℤ (pos B) ≤ℤ x) × (x ≤ℤ pos B)
-between-abs x B = show (simp reify tt) (omega arith)
 
 pub abs-zero : {x : ℤ} → natAbs x ≡ 0 → x ≡ pos 0
 abs-zero {x} e = zero-of (omega arith)

@@ -58,9 +58,6 @@ floor-unique a q d l h =
     d-above : 0 < d
     d-above = omega (arith, read l (simp reify tt), read h (simp reify tt))
 
-pub floor-mono : (a b : ℤ) (d : ℕ) → 0 < d → a ≤ℤ b → floor a d ≤ℤ floor b d
-floor-mono a b d h k = multiple-below d (floor a d) (floor b d) (≤ℤ-<ℤ-trans (floor-low a d h) (≤ℤ-<ℤ-trans k (floor-high b d h)))
-
 -- a multiple of d comes out of the floor
 pub floor-add : (a q : ℤ) (d : ℕ) → 0 < d → floor (a +ℤ pos d *ℤ q) d ≡ floor a d +ℤ q
 floor-add a q d h = sym (floor-unique (a +ℤ pos d *ℤ q) (floor a d +ℤ q) d low high)

@@ -18,12 +18,6 @@ use Rattle.integers.proofs.Linear.{reify, show}
 pub +ℤ-left-comm : (x y z : ℤ) → x +ℤ (y +ℤ z) ≡ y +ℤ (x +ℤ z)
 +ℤ-left-comm x y z = show (simp reify tt) (omega arith)
 
-pub +ℤ-swap4 : (a b c d : ℤ) → (a +ℤ b) +ℤ (c +ℤ d) ≡ (a +ℤ c) +ℤ (b +ℤ d)
-+ℤ-swap4 a b c d = show (simp reify tt) (omega arith)
-
-pub +ℤ-cancel : {x y : ℤ} (k : ℤ) → x +ℤ k ≡ y +ℤ k → x ≡ y
-+ℤ-cancel {x} {y} k = show (simp reify tt) (omega arith)
-
 pub diff-zero : {x y : ℤ} → x -ℤ y ≡ pos 0 → x ≡ y
 diff-zero {x} {y} = show (simp reify tt) (omega arith)
 
@@ -48,12 +42,6 @@ pub *ℤ-+ℤ : (x y z : ℤ) → x *ℤ (y +ℤ z) ≡ x *ℤ y +ℤ x *ℤ z
 pub +ℤ-*ℤ : (x y z : ℤ) → (x +ℤ y) *ℤ z ≡ x *ℤ z +ℤ y *ℤ z
 +ℤ-*ℤ x y z = show (simp reify tt) (omega arith)
 
-pub *ℤ--ℤ : (x y z : ℤ) → x *ℤ (y -ℤ z) ≡ x *ℤ y -ℤ x *ℤ z
-*ℤ--ℤ x y z = show (simp reify tt) (omega arith)
-
-pub -ℤ-*ℤ : (x y z : ℤ) → (x -ℤ y) *ℤ z ≡ x *ℤ z -ℤ y *ℤ z
--ℤ-*ℤ x y z = show (simp reify tt) (omega arith)
-
 pub negℤ-*ℤ : (x y : ℤ) → negℤ x *ℤ y ≡ negℤ (x *ℤ y)
 negℤ-*ℤ x y = show (simp reify tt) (omega arith)
 
@@ -69,30 +57,14 @@ times k e = ap (λ z. k *ℤ z) e
 pub ≤ℤ-of-≡ : {x y : ℤ} → x ≡ y → x ≤ℤ y
 ≤ℤ-of-≡ {x} {y} = show (simp reify tt) (omega arith)
 
-pub ≤ℤ-by : {x x′ y y′ : ℤ} → x ≡ x′ → y ≡ y′ → x′ ≤ℤ y′ → x ≤ℤ y
-≤ℤ-by {x} {x′} {y} {y′} = show (simp reify tt) (omega arith)
-
-pub ≤ℤ-trans : {x y z : ℤ} → x ≤ℤ y → y ≤ℤ z → x ≤ℤ z
-≤ℤ-trans {x} {y} {z} = show (simp reify tt) (omega arith)
-
 pub ≤ℤ-antisym : {x y : ℤ} → x ≤ℤ y → y ≤ℤ x → x ≡ y
 ≤ℤ-antisym {x} {y} = show (simp reify tt) (omega arith)
 
 pub <ℤ→≤ℤ : {x y : ℤ} → x <ℤ y → x ≤ℤ y
 <ℤ→≤ℤ {x} {y} = show (simp reify tt) (omega arith)
 
-pub <ℤ-trans : {x y z : ℤ} → x <ℤ y → y <ℤ z → x <ℤ z
-<ℤ-trans {x} {y} {z} = show (simp reify tt) (omega arith)
-
 pub ≤ℤ-<ℤ-trans : {x y z : ℤ} → x ≤ℤ y → y <ℤ z → x <ℤ z
 ≤ℤ-<ℤ-trans {x} {y} {z} = show (simp reify tt) (omega arith)
-
--- between x and x + 1 there is no integer
-pub <ℤ-next : {x y : ℤ} → x <ℤ y → (x +ℤ pos 1) ≤ℤ y
-<ℤ-next {x} {y} = show (simp reify tt) (omega arith)
-
-pub next-<ℤ : {x y : ℤ} → (x +ℤ pos 1) ≤ℤ y → x <ℤ y
-next-<ℤ {x} {y} = show (simp reify tt) (omega arith)
 
 pub ≤ℤ-dec : (x y : ℤ) → Dec (x ≤ℤ y)
 ≤ℤ-dec x y = Dec·of-iff (Iff·symm (le-nat x y)) (decLe (positive x + negative y) (positive y + negative x))
@@ -108,9 +80,6 @@ pub ≤ℤ-or->ℤ : (x y : ℤ) → (x ≤ℤ y) ⊎ (y <ℤ x)
     go (no h) = inr (above h)
 
 -- ---- the order and the operations
-
-pub +ℤ-mono : {x y u v : ℤ} → x ≤ℤ y → u ≤ℤ v → (x +ℤ u) ≤ℤ (y +ℤ v)
-+ℤ-mono {x} {y} {u} {v} = show (simp reify tt) (omega arith)
 
 pub negℤ-anti : {x y : ℤ} → x ≤ℤ y → negℤ y ≤ℤ negℤ x
 negℤ-anti {x} {y} = show (simp reify tt) (omega arith)
@@ -134,9 +103,6 @@ pub *ℤ-cancel : (k : ℤ) {x y : ℤ} → pos 0 <ℤ k → k *ℤ x ≡ k *ℤ
 
 pub *ℤ-nonneg : {x y : ℤ} → pos 0 ≤ℤ x → pos 0 ≤ℤ y → pos 0 ≤ℤ (x *ℤ y)
 *ℤ-nonneg {x} {y} h k = subst (λ z. z ≤ℤ (x *ℤ y)) (*ℤ-zero x) (*ℤ-mono x h k)
-
-pub *ℤ-positive : {x y : ℤ} → pos 0 <ℤ x → pos 0 <ℤ y → pos 0 <ℤ (x *ℤ y)
-*ℤ-positive {x} {y} h k = subst (λ z. z <ℤ (x *ℤ y)) (*ℤ-zero x) (*ℤ-mono< x h k)
 
 pub square-nonneg : (x : ℤ) → pos 0 ≤ℤ (x *ℤ x)
 square-nonneg (pos a) = le-of (omega arith)

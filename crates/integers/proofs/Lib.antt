@@ -10,4 +10,5 @@ pub mod Absolute
 pub mod Division
 pub mod Rounding
 pub mod Machine
+pub mod Words
 pub mod Examples

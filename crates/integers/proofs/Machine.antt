@@ -4,7 +4,7 @@
 -- remainder from 0 up (`modulo-remainder`, `modulo-remainder-less`, `floor-exact`); or, for a number that a multiple of d brings to 0 or above, an
 -- unsigned quotient less that multiple (`floor-moved`). Assumes nothing.
 use mathlib.Core.Logic.{_⊎_, inl, inr}
-use mathlib.Core.Path.{_≡_, sym, _∙_, ap}
+use mathlib.Core.Path.{_≡_, _∙_, ap}
 use Prim.Native.Nat.{ℕ, suc, _*_, _/_, _^_, _<_}
 use native.Mathlib.Nat.{div-add-mod, mod-lt, div-le-self, mul-le-mul-left}
 use native.Mathlib.Omega.{arith}
@@ -20,10 +20,6 @@ use Rattle.integers.proofs.Parts.{of-lt}
 use Rattle.integers.proofs.Laws.{≤ℤ-or->ℤ}
 use Rattle.integers.proofs.Linear.{reify, show}
 use Rattle.integers.proofs.Division.{floor-unique, floor-add, floor-multiple, modulo-equation}
-
--- two numbers with the same bits, as after `if x == 0`: `same-bits w64 x (pos 0) (c .fits .x) (sfits-lit tt) (c .if1 .taken)`
-pub same-bits : (w : Width) (x y : ℤ) → SFits w x → SFits w y → ofZ w x ≡ ofZ w y → x ≡ y
-same-bits w x y f g e = sym (toZ-ofZ f) ∙ ap (toZ w) e ∙ toZ-ofZ g
 
 -- a number of one width times a natural number, at a width that holds the product
 pub product-widens : {v : Width} (w : Width) (m : ℕ) (x : ℤ) → SFits v x → m * 2 ^ hbits v < 2 ^ hbits w → SFits w (pos m *ℤ x)

@@ -1,13 +1,4 @@
-pub mod Digits
-pub mod Fields
-pub mod PartLines
-pub mod Places
-pub mod Puts
-pub mod ReadBack
-pub mod Signs
-pub mod Sized
-pub mod Texts
-pub mod ValueLines
+-- Theorems about the whole: the parts are the output, printed numbers read back, and examples.
 pub mod WholeOutput
+pub mod ReadBack
 pub mod Worked
-pub mod Zooming

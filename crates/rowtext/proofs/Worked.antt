@@ -7,13 +7,13 @@ use lib.IntN.{pos, negℤ}
 use Rattle.integers.specs.Rounding.{round}
 use Rattle.bspline.specs.Mirror.{mirror}
 use Rattle.bspline.specs.Recursions.{R, causal, forward, anticausal, backward, coefficient, delivered, coefficients}
-use Rattle.bspline.specs.Tables.{tabulate}
+use Rattle.bspline.specs.Lists.{tabulate}
 use Rattle.bspline.specs.Transforms.{rowCoefficients}
 use Rattle.bspline.specs.Values.{weights, rowSum, valueInRow, zoomValues}
-use Rattle.rowtext.specs.Decimal.{decimal, signedDecimal}
-use Rattle.rowtext.specs.Numbers.{lineNumber, lines, numbers}
-use Rattle.rowtext.specs.Outcomes.{zoomed, zoomSamples, zoomText}
-use Rattle.rowtext.specs.Output.{header, valueLine, valueLines, refusalLine, printed, output}
+use Rattle.decimal.specs.Decimal.{decimal, signedDecimal}
+use Rattle.readtext.specs.Numbers.{lineNumber, lines, numbers}
+use Rattle.zoomtext.specs.Outcomes.{row, zoomSamples, zoomText}
+use Rattle.printtext.specs.Output.{header, valueLine, valueLines, refusalLine, printed, output}
 
 -- "-00005" is -5, "-0" is 0
 five : lineNumber (45 ∷ 48 ∷ 48 ∷ 48 ∷ 48 ∷ 53 ∷ []) ≡ some (negℤ (pos 5))
@@ -66,7 +66,7 @@ example-output =
     48 ∷ 32 ∷ 48 ∷ 10 ∷ []
 
 example-values : zoomSamples 3 (pos 0 ∷ pos 1 ∷ pos 0 ∷ []) ≡
-    zoomed 3 3 (pos 0 ∷ pos 66 ∷ pos 190 ∷ pos 256 ∷ pos 190 ∷ pos 66 ∷ pos 0 ∷ [])
+    row 3 3 (pos 0 ∷ pos 66 ∷ pos 190 ∷ pos 256 ∷ pos 190 ∷ pos 66 ∷ pos 0 ∷ [])
 unfolding zoomSamples zoomValues valueInRow rowSum weights round mirror rowCoefficients coefficients delivered coefficient tabulate forward causal backward anticausal R
 example-values = refl
 

@@ -1,24 +1,10 @@
 // What the program rowzoom does, as functions on slices: `zoom::zoom_text` reads a text and computes its values, `output::print_part` makes the
-// bytes that are printed. What a text means and what is printed is defined in specs/.
-mod decimal;
-mod number;
-mod numbers;
+// bytes that are printed. They are written and proved in the crates `zoomtext` and `printtext`; callers name them here. proofs/ has the theorems
+// about the whole: the parts are the output, and what is printed of a number reads back.
 pub mod output;
 pub mod zoom;
 
-use spline::Refusal;
-
-const LINE_FEED: u8 = b'\n';
-
-// What an accepted text has: its samples, its factor and the count of its values.
-pub struct Sizes {
-    pub samples: usize,
-    pub factor: usize,
-    pub values: usize,
-}
-
-// What a text gives: values, or the refusal.
-pub enum Zoomed {
-    Row(Sizes),
-    Refused(Refusal),
-}
+pub use answers::limits::MOST_VALUES;
+pub use zoomtext::LONGEST_TEXT;
+pub use zoomtext::Sizes;
+pub use zoomtext::Zoomed;

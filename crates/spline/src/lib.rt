@@ -1,76 +1,14 @@
 // Cubic spline coefficients and values of rows of samples and of pictures. An operation takes lent slices, answers an enum by value, and
 // either gives its full result or refuses and changes nothing.
 //
-// What an operation computes is defined in the crate `bspline` (specs/); specs/Answers.antt reads the enums below as its answers.
-mod buffers;
-mod filter;
-mod limits;
-mod lines;
-mod mirror;
+// What an operation computes is defined in the crate `bspline` (specs/); the crate `answers` reads the enums and structs as its answers and
+// descriptions. The operations are written and proved in the crates `transforms`, `values` and `zoom`; callers name them here.
 pub mod picture;
-mod positions;
-mod rounding;
 pub mod row;
-mod sums;
-mod zoom;
 
-ghost use mathlib.Core.Path.{_≡_};
-ghost use Rattle.spline.specs.Answers.{number};
-
-// Why a call is refused. The number of each is in specs/Answers.antt.
-pub enum Refusal {
-    EmptyRow,
-    LongRow,
-    BadSide,
-    WrongCount,
-    ShortWork,
-    ShortCoefficients,
-    BadFactor,
-    OffData,
-    ShortValues,
-    BadText,
-}
-
-impl Refusal {
-    // Its number in the specification.
-    pub fn number(self) -> usize
-        ensures { λ r. ⌜ r ≡ number self ⌝ }
-    {
-        match self {
-            Refusal::EmptyRow => 1,
-            Refusal::LongRow => 2,
-            Refusal::BadSide => 3,
-            Refusal::WrongCount => 4,
-            Refusal::ShortWork => 5,
-            Refusal::ShortCoefficients => 6,
-            Refusal::BadFactor => 7,
-            Refusal::OffData => 8,
-            Refusal::ShortValues => 9,
-            Refusal::BadText => 10,
-        }
-    }
-}
-
-// What a transform and row zoom answer: how many numbers were written, or the refusal.
-pub enum Written {
-    Count(usize),
-    Refused(Refusal),
-}
-
-// What row value and picture value answer: the value in units of 1/256 of a count, or the refusal.
-pub enum Valued {
-    Value(i32),
-    Refused(Refusal),
-}
-
-// A picture's description: its sides.
-pub struct Shape {
-    pub width: usize,
-    pub height: usize,
-}
-
-// A position between the data of a row, or along one side of a picture: k + j / m, where the factor m is passed beside it.
-pub struct Position {
-    pub k: usize,
-    pub j: usize,
-}
+pub use answers::Position;
+pub use answers::Refusal;
+pub use answers::Shape;
+pub use answers::Valued;
+pub use answers::Written;
+pub use answers::limits;

@@ -4,7 +4,7 @@ use Prim.Native.Nat.{_≤_}
 use borrow.Author.Needs.{needs}
 use lib.ListN.{length}
 use lib.Seq.{length-take-le}
-use Rattle.rowtext.specs.Answers.{Printed}
+use Rattle.printtext.specs.Printing.{Printed}
 use Rattle.rowtext.proofs.WholeOutput.{printed-fits}
 use Rattle.rowzoom.proofs.write_part.Statement.{statement}
 use Rattle.rowzoom.proofs.write_part.Tie as tie

@@ -1,0 +1,72 @@
+// What the operations answer, how pictures and positions are described, and what is refused. specs/Answers.antt reads the enums and structs as the
+// answers and descriptions of the specification.
+pub mod checks;
+pub mod limits;
+
+ghost use mathlib.Core.Path.{_≡_};
+ghost use Rattle.answers.specs.Answers.{number};
+
+// Why a call is refused. A new one is a line here, one in `byte` and one in `number` of specs/Answers.antt.
+pub enum Refusal {
+    EmptyRow,
+    LongRow,
+    BadSide,
+    WrongCount,
+    ShortWork,
+    ShortCoefficients,
+    BadFactor,
+    OffData,
+    ShortValues,
+    BadText,
+}
+
+impl Refusal {
+    // Its number in the specification, as a byte: whoever prints or negates it knows that it is small.
+    pub fn byte(self) -> u8
+        ensures { λ r. ⌜ r ≡ number self ⌝ }
+    {
+        match self {
+            Refusal::EmptyRow => 1,
+            Refusal::LongRow => 2,
+            Refusal::BadSide => 3,
+            Refusal::WrongCount => 4,
+            Refusal::ShortWork => 5,
+            Refusal::ShortCoefficients => 6,
+            Refusal::BadFactor => 7,
+            Refusal::OffData => 8,
+            Refusal::ShortValues => 9,
+            Refusal::BadText => 10,
+        }
+    }
+
+    // Its number in the specification.
+    pub fn number(self) -> usize
+        ensures { λ r. ⌜ r ≡ number self ⌝ }
+    {
+        self.byte() as usize
+    }
+}
+
+// What a transform and row zoom answer: how many numbers were written, or the refusal.
+pub enum Written {
+    Count(usize),
+    Refused(Refusal),
+}
+
+// What row value and picture value answer: the value in units of 1/256 of a count, or the refusal.
+pub enum Valued {
+    Value(i32),
+    Refused(Refusal),
+}
+
+// A picture's description: its sides.
+pub struct Shape {
+    pub width: usize,
+    pub height: usize,
+}
+
+// A position between the data of a row, or along one side of a picture: k + j / m, where the factor m is passed beside it.
+pub struct Position {
+    pub k: usize,
+    pub j: usize,
+}

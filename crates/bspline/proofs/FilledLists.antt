@@ -1,0 +1,53 @@
+-- A list that a loop fills from the front with the numbers of another: after i turns the first i are the same. Assumes nothing.
+use mathlib.Core.List.{List, _++_, append-assoc}
+use mathlib.Core.Path.{_≡_, refl, sym, ap, ap₂, _∙_}
+use Prim.Native.Nat.{ℕ, _+_, _-_, _≤_, _<_, zero-le}
+use native.Mathlib.Numerals.{add-one}
+use native.Mathlib.Omega.{arith}
+use borrow.Rule.Slice.PartMut.{midOf, postOf, putMid, same-len-mid, mid-len}
+use lib.IntN.{ℤ, pos}
+use lib.ListN.{length, take, set, length-set, length-append}
+use lib.Seq.{length-take-le, take-suc, take-suc-set, take-all, take-add, take-at}
+use Rattle.bspline.specs.Lists.{at}
+
+pub record Filled (target l : List ℤ) (i : ℕ) : Type 0 where
+  pub within : i ≤ length target
+  pub long : length l ≡ length target
+  pub same : take i l ≡ take i target
+
+pub filled-none : (target l : List ℤ) → length l ≡ length target → Filled target l 0
+filled-none target l e = record { within = zero-le; long = e; same = refl }
+
+pub filled-more : {target l : List ℤ} {i : ℕ} (v : ℤ) → Filled target l i → i < length target → v ≡ at target i → Filled target (set l i v) (i + 1)
+filled-more {target} {l} {i} v f h e =
+    let k : i < length l = omega (arith, f .long) in
+    record {
+      within = omega arith;
+      long = simp length-set (f .long);
+      same = rw (add-one, take-suc-set l i v k, f .same, e) (sym (take-suc target i (pos 0) h));
+    }
+
+-- the part from place i up to place e is replaced by the target's own
+pub filled-part : {target l : List ℤ} {i : ℕ} (e : ℕ) (v : List ℤ) → Filled target l i → i ≤ e → e ≤ length target →
+    v ≡ midOf i (e - i) target → Filled target (putMid i (e - i) l v) e
+filled-part {target} {l} {i} e v f h g q =
+    let size : length v ≡ e - i = ap length q ∙ mid-len i e target g in
+    let room : length (midOf i (e - i) l) ≡ e - i = mid-len i e l (omega (arith, f .long)) in
+    let front : length (take i l ++ v) ≡ e =
+    length-append (take i l) v ∙ omega (arith, size, length-take-le i l (omega (arith, f .long))) in
+    let whole : i + (e - i) ≡ e = omega arith in
+    record {
+      within = g;
+      long = same-len-mid i (e - i) l v (size ∙ sym room) ∙ f .long;
+      same =
+          ap (take e) (sym (append-assoc (take i l) v (postOf i (e - i) l)))
+          ∙ take-at (take i l ++ v) (postOf i (e - i) l) e front
+          ∙ ap₂ _++_ (f .same) q
+          ∙ sym (take-add i (e - i) target)
+          ∙ ap (λ (n : ℕ). take n target) whole;
+    }
+
+pub filled-all : {target l : List ℤ} {i : ℕ} → Filled target l i → length target ≤ i → l ≡ target
+filled-all {target} {l} {i} f h =
+    let k : length l ≤ i = omega (arith, f .long) in
+    sym (take-all i l k) ∙ f .same ∙ take-all i target h

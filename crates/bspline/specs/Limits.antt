@@ -1,0 +1,19 @@
+-- The limits of the data: "Who can be refused". Assumes nothing.
+use Prim.Native.Nat.{ℕ, _+_, _*_}
+use Rattle.bspline.specs.Recursions.{margin}
+
+-- the longest row
+abbrev pub longestRow : ℕ
+longestRow = 4096
+
+-- the longest side of a picture
+abbrev pub longestSide : ℕ
+longestSide = 512
+
+-- the greatest factor
+abbrev pub greatestFactor : ℕ
+greatestFactor = 16
+
+-- how many words of work a line of n numbers takes: its own and a margin at each end
+abbrev pub workWords : ℕ → ℕ
+workWords n = n + 2 * margin

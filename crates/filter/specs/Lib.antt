@@ -1,0 +1,3 @@
+-- What the contracts of the filter cite beside the definitions of `bspline`.
+pub mod Lines
+pub mod Raised

@@ -1,0 +1,35 @@
+// Whole buffers: samples brought to the coefficients' unit, and the work slice cleared.
+ghost use mathlib.Core.Path.{_≡_};
+ghost use lib.IntN.{pos};
+ghost use lib.ListN.{length, replicate};
+ghost use Rattle.filter.specs.Raised.{raised, Raised};
+
+// A sample in the coefficients' unit, 1/4096 of a count.
+fn raised_sample(s: i16) -> i32
+    ensures { λ r. ⌜ r ≡ raised s ⌝ }
+{
+    4096 * (s as i32)
+}
+
+// Fills a buffer with the samples in the coefficients' unit, of which there are as many.
+pub fn raise(samples: &[i16], c: &mut [i32])
+    requires { ⌜ length (now c) ≡ length (now samples) ⌝ }
+    ensures { λ _. ⌜ Raised (now (samples .entry)) (now (c .exit)) ⌝ }
+{
+    let mut i = 0;
+    while i < c.len() {
+        c[i] = raised_sample(samples[i]);
+        i += 1;
+    }
+}
+
+// Sets every word to 0.
+pub fn clear(work: &mut [i64])
+    ensures { λ _. ⌜ now (work .exit) ≡ replicate (length (now (work .entry))) (pos 0) ⌝ }
+{
+    let mut word = 0;
+    while word < work.len() {
+        work[word] = 0;
+        word += 1;
+    }
+}

@@ -1,0 +1,16 @@
+-- From an operation's own clause to that of its function for C: the answer is replaced by its code. Assumes nothing.
+use mathlib.Core.List.{List}
+use mathlib.Core.Path.{_≡_, ap, _∙_}
+use lib.IntN.{ℤ}
+use Rattle.bspline.specs.Outcomes.{Transformed, Evaluated}
+use Rattle.bspline.specs.Refusals.{Answer}
+use Rattle.harness.specs.Codes.{CodedTransform, CodedValues, code, codedTransform, codedValues}
+
+pub coded-transform : (a : Answer) {x : ℤ} {C work : List ℤ} {o : Transformed} → x ≡ code a →
+    record { answer = a; coefficients = C; work = work } ≡ o → _≡_ {A = CodedTransform} (record { answer = x; coefficients = C; work = work }) (codedTransform o)
+coded-transform a {C = C} {work} e f =
+    ap (λ (x : ℤ). record { answer = x; coefficients = C; work = work }) e ∙ ap codedTransform f
+
+pub coded-values : (a : Answer) {x : ℤ} {v : List ℤ} {o : Evaluated} → x ≡ code a →
+    record { answer = a; values = v } ≡ o → _≡_ {A = CodedValues} (record { answer = x; values = v }) (codedValues o)
+coded-values a {v = v} e f = ap (λ (x : ℤ). record { answer = x; values = v }) e ∙ ap codedValues f

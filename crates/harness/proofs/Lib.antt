@@ -1,0 +1,2 @@
+-- What belongs to more than one function.
+pub mod Coded

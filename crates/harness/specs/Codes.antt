@@ -1,0 +1,35 @@
+-- Answers as signed numbers, as the functions for C return them, beside the buffers that they leave. Assumes nothing.
+use mathlib.Core.List.{List}
+use Prim.Native.Nat.{_+_, _-_, _^_, min}
+use lib.IntN.{ℤ, pos, negℤ}
+use Rattle.bspline.specs.Outcomes.{Transformed, Evaluated}
+use Rattle.bspline.specs.Refusals.{Answer, count, value, refusal}
+
+-- a count as itself, as far as 64 bits with a sign go; a refusal's number negated
+abbrev pub code : Answer → ℤ
+code (count n) = pos (min n (2 ^ 63 - 1))
+code (value v) = v
+code (refusal k) = negℤ (pos k)
+
+-- a value as itself, a refusal's number above 2^32, which no value is
+abbrev pub valueCode : Answer → ℤ
+valueCode (count n) = pos n
+valueCode (value v) = v
+valueCode (refusal k) = pos (2 ^ 32 + k)
+
+-- the outcome of a transform, with the code of its answer
+pub record CodedTransform : Type 0 where
+  pub answer : ℤ
+  pub coefficients : List ℤ
+  pub work : List ℤ
+
+abbrev pub codedTransform : Transformed → CodedTransform
+codedTransform o = record { answer = code (o .answer); coefficients = o .coefficients; work = o .work }
+
+-- the outcome of row zoom, with the code of its answer
+pub record CodedValues : Type 0 where
+  pub answer : ℤ
+  pub values : List ℤ
+
+abbrev pub codedValues : Evaluated → CodedValues
+codedValues o = record { answer = code (o .answer); values = o .values }

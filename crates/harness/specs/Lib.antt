@@ -1,0 +1,2 @@
+-- What the contracts of the functions for C cite.
+pub mod Codes

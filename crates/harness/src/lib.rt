@@ -1,0 +1,111 @@
+// The operations with the C calling convention, for tests and benchmarks in other languages. No part of the library: nothing in the
+// repository but tests/ and bench/ uses it.
+ghost use mathlib.Core.Path.{_≡_};
+ghost use Prim.Native.Nat.{_-_, _^_, min};
+ghost use lib.IntN.{pos};
+ghost use Rattle.bspline.specs.Outcomes.{rowTransform, pictureTransform, rowZoom, rowValue, pictureValue};
+ghost use Rattle.bspline.specs.PictureLayout.{sides};
+ghost use Rattle.answers.specs.Answers.{valued, written};
+ghost use Rattle.harness.specs.Codes.{code, valueCode, codedTransform, codedValues};
+use spline::Position;
+use spline::Shape;
+use spline::Valued;
+use spline::Written;
+
+// A count as a signed number. No count is so great that it must be cut.
+fn count_code(n: usize) -> i64
+    ensures { λ x. ⌜ x ≡ pos (min n (2 ^ 63 - 1)) ⌝ }
+{
+    if n <= 9223372036854775807 {
+        n as i64
+    } else {
+        9223372036854775807
+    }
+}
+
+// A count as itself, or a refusal's number negated.
+fn written_code(w: Written) -> i64
+    ensures { λ x. ⌜ x ≡ code (written w) ⌝ }
+{
+    match w {
+        Written::Count(n) => count_code(n),
+        Written::Refused(r) => -(r.byte() as i64),
+    }
+}
+
+// A value as itself, or 2^32, which is above every value, plus a refusal's number.
+fn valued_code(v: Valued) -> i64
+    ensures { λ x. ⌜ x ≡ valueCode (valued v) ⌝ }
+{
+    match v {
+        Valued::Value(x) => x as i64,
+        Valued::Refused(r) => 4294967296 + r.byte() as i64,
+    }
+}
+
+#[no_mangle]
+pub extern "C" fn harness_row_transform(
+    samples: &[i16],
+    coefficients: &mut [i32],
+    work: &mut [i64],
+) -> i64
+    ensures { λ r. ⌜
+        record { answer = r; coefficients = now (coefficients .exit); work = now (work .exit) }
+        ≡ codedTransform (rowTransform (now (samples .entry)) (now (coefficients .entry)) (now (work .entry))) ⌝ }
+{
+    written_code(spline::row::transform(samples, coefficients, work))
+}
+
+#[no_mangle]
+pub extern "C" fn harness_picture_transform(
+    pixels: &[i16],
+    width: usize,
+    height: usize,
+    coefficients: &mut [i32],
+    work: &mut [i64],
+) -> i64
+    ensures { λ r. ⌜
+        record { answer = r; coefficients = now (coefficients .exit); work = now (work .exit) }
+        ≡ codedTransform (pictureTransform (sides width height) (now (pixels .entry)) (now (coefficients .entry)) (now (work .entry))) ⌝ }
+{
+    let shape = Shape { width, height };
+    written_code(spline::picture::transform(pixels, shape, coefficients, work))
+}
+
+#[no_mangle]
+pub extern "C" fn harness_row_zoom(coefficients: &[i32], m: usize, values: &mut [i32]) -> i64
+    ensures { λ r. ⌜
+        record { answer = r; values = now (values .exit) } ≡ codedValues (rowZoom m (now (coefficients .entry)) (now (values .entry))) ⌝ }
+{
+    written_code(spline::row::zoom(coefficients, m, values))
+}
+
+#[no_mangle]
+pub extern "C" fn harness_row_value(coefficients: &[i32], k: usize, j: usize, m: usize) -> i64
+    ensures { λ r. ⌜ r ≡ valueCode (rowValue m (now (coefficients .entry)) (record { k = k; j = j })) ⌝ }
+{
+    let position = Position { k, j };
+    valued_code(spline::row::value(coefficients, position, m))
+}
+
+#[no_mangle]
+pub extern "C" fn harness_picture_value(
+    coefficients: &[i32],
+    width: usize,
+    height: usize,
+    kx: usize,
+    jx: usize,
+    ky: usize,
+    jy: usize,
+    m: usize,
+) -> i64
+    ensures { λ r. ⌜
+        r
+        ≡ valueCode
+        (pictureValue m (sides width height) (now (coefficients .entry)) (record { k = kx; j = jx }) (record { k = ky; j = jy })) ⌝ }
+{
+    let sides = Shape { width, height };
+    let x = Position { k: kx, j: jx };
+    let y = Position { k: ky, j: jy };
+    valued_code(spline::picture::value(coefficients, sides, x, y, m))
+}

@@ -1,0 +1,4 @@
+-- The laws from which the functions of `readtext` are proved.
+pub mod Digits
+pub mod Signs
+pub mod Texts

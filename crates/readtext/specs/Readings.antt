@@ -1,0 +1,22 @@
+-- The enums of `readtext`, read as what was found in a line and in a text. Assumes nothing.
+use mathlib.Core.List.{List}
+use mathlib.Core.Option.{Option, none, some}
+use mathlib.Core.Path.{_≡_}
+use Prim.Native.Nat.{ℕ, _≤_}
+use lib.IntN.{ℤ}
+use lib.ListN.{length, take}
+use Rattle.readtext.specs.Numbers.{numbers}
+use Rattle.readtext.specs.declared.line.Number.{Number}
+use Rattle.readtext.specs.declared.line.Number.the-variants.{Is, Illegal as NoNumber}
+use Rattle.readtext.specs.declared.text.Numbers.{Numbers}
+use Rattle.readtext.specs.declared.text.Numbers.the-variants.{Count, Illegal}
+
+-- what was read of a line
+abbrev pub numberRead : Number → Option ℤ
+numberRead (Is z) = some z
+numberRead NoNumber = none
+
+-- what was read of a text, into a buffer
+abbrev pub Reads : List ℕ → List ℤ → Numbers → Type 0
+Reads t buffer (Count n) = (n ≤ length buffer) × (numbers t ≡ some (take n buffer))
+Reads t buffer Illegal = numbers t ≡ none

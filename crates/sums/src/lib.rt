@@ -1,0 +1,4 @@
+// Weighted sums of coefficients: what a value between samples is rounded from.
+pub mod pictures;
+pub mod rows;
+pub mod weights;

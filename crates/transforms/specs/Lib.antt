@@ -1,0 +1,3 @@
+-- What the contracts of the transforms cite beside the definitions of `bspline`.
+pub mod Rows
+pub mod Pictures

@@ -1,0 +1,3 @@
+// The operations that answer one value of a spline, of a row and of a picture.
+pub mod picture;
+pub mod row;

@@ -1,0 +1,49 @@
+-- The cubic of the numerator that a weighted sum is between two places, and its differences. Assumes nothing.
+use mathlib.Core.List.{List}
+use mathlib.Core.Path.{_≡_}
+use Prim.Native.Nat.{ℕ, _*_, _^_}
+use lib.IntN.{ℤ, pos, _+ℤ_, _-ℤ_, _*ℤ_}
+use Rattle.integers.specs.Bound.{Within}
+use Rattle.bspline.specs.Values.{weights, dot}
+use Rattle.zoom.specs.declared.cubic.Cubic.{Cubic}
+use Rattle.zoom.specs.declared.cubic.Differences.{Differences}
+
+-- the cubic at a numerator
+abbrev pub cubicSum : Cubic → ℤ → ℤ
+cubicSum f j = ((f .three *ℤ j +ℤ f .two) *ℤ j +ℤ f .one) *ℤ j +ℤ f .zero
+
+-- at every numerator it is the weighted sum of the four numbers
+pub record CubicOf (m : ℕ) (c : List ℤ) (f : Cubic) : Type 0 where
+  pub sums : (j : ℕ) → cubicSum f (pos j) ≡ dot (weights m j) c
+
+-- its coefficients for 32-bit numbers: at most the sizes of the factors times 2^31, at factor 16
+pub record CubicSmall (f : Cubic) : Type 0 where
+  pub zero : Within (24576 * 2 ^ 31) (f .zero)
+  pub one : Within (1536 * 2 ^ 31) (f .one)
+  pub two : Within (192 * 2 ^ 31) (f .two)
+  pub three : Within (8 * 2 ^ 31) (f .three)
+
+-- by how much a function grows from a numerator to the next
+abbrev pub growth : (ℤ → ℤ) → ℤ → ℤ
+growth g j = g (j +ℤ pos 1) -ℤ g j
+
+-- the cubic at a numerator, its growth there, and the growth of each growth
+pub record DifferencesAt (f : Cubic) (j : ℤ) (d : Differences) : Type 0 where
+  pub value : d .value ≡ cubicSum f j
+  pub first : d .first ≡ growth (cubicSum f) j
+  pub second : d .second ≡ growth (growth (cubicSum f)) j
+  pub third : d .third ≡ growth (growth (growth (cubicSum f))) j
+
+-- their sizes for a small cubic at a numerator up to 16: its value is within 2^49 up to three numerators on, and each growth within twice as much
+pub record DifferencesSmall (d : Differences) : Type 0 where
+  pub value : Within (2 ^ 49) (d .value)
+  pub first : Within (2 ^ 50) (d .first)
+  pub second : Within (2 ^ 51) (d .second)
+  pub third : Within (2 ^ 52) (d .third)
+
+-- each but the last grows by the one after it, and so they are those at the next numerator
+pub record Stepped (d r : Differences) : Type 0 where
+  pub value : r .value ≡ d .value +ℤ d .first
+  pub first : r .first ≡ d .first +ℤ d .second
+  pub second : r .second ≡ d .second +ℤ d .third
+  pub third : r .third ≡ d .third

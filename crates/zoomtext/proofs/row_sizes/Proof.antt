@@ -1,0 +1,57 @@
+-- `zoomtext::row_sizes` meets its contract: each return is the first test that fails, or the last one, and within the limits the count of
+-- values fits. Assumes nothing.
+use mathlib.Core.Bool.{false}
+use mathlib.Core.Path.{_≡_, sym, _∙_}
+use Prim.Native.Nat.{_-_, _*_, _≤_}
+use native.Mathlib.Omega.{arith}
+use borrow.Author.Needs.{needs}
+use Rattle.bspline.specs.Limits.{longestRow, greatestFactor}
+use Rattle.bspline.specs.Refusals.{outside}
+use Rattle.bspline.proofs.Refusals.{one-to}
+use Rattle.bspline.proofs.Zoom.{zoom-few}
+use Rattle.zoomtext.specs.declared.Sizes.{Sizes}
+use Rattle.zoomtext.proofs.row_sizes.Statement.{statement}
+use Rattle.zoomtext.proofs.row_sizes.Tie as tie
+
+returns : tie.Need-returns
+returns c = simp (sym (c .before .outside .ensures) ∙ c .if1 .taken)
+
+-- a row that is not too long
+short : (c : tie.Else1) → outside longestRow (c .before .before .args .s .samples) ≡ false
+short c = sym (c .before .outside .ensures) ∙ c .if1 .left
+
+returns-2 : tie.Need-returns-2
+returns-2 c = simp (short (c .before .before), sym (c .before .outside2 .ensures) ∙ c .if2 .taken)
+
+-- and a factor within its limit
+module _ (c : tie.Else2) where
+  abbrev row : tie.Else1
+  row = c .before .before
+
+  abbrev sizes : Sizes
+  sizes = row .before .before .args .s
+
+  small : outside greatestFactor (sizes .factor) ≡ false
+  small = sym (c .before .outside2 .ensures) ∙ c .if2 .left
+
+  few : (sizes .samples - 1) * sizes .factor ≤ 65536
+  few =
+      let n = one-to longestRow (sizes .samples) (short row) in
+      zoom-few (sizes .factor) (sizes .samples - 1) (one-to greatestFactor (sizes .factor) small .1) (omega arith)
+
+sub-result : tie.Need-sub-result
+sub-result c = one-to longestRow (sizes c .samples) (short (row c)) .0
+
+mul-result : tie.Need-mul-result
+mul-result c = omega (arith, few c)
+
+add-result : tie.Need-add-result
+add-result c = omega (arith, few c)
+
+returns-3 : tie.Need-returns-3
+returns-3 c = simp (short (row (c .before)), small (c .before))
+
+pub row-sizes-spec : {M : Type 1} → statement M
+row-sizes-spec =
+    tie.close
+    (tie.spec (λ c κs. search needs) returns (λ c κs. search needs) returns-2 sub-result mul-result add-result returns-3)
