@@ -4,10 +4,10 @@ use Prim.Native.Nat.{ℕ, suc, _+_, _≤_, _<_, _^_}
 use native.Mathlib.Omega.{arith}
 use lib.IntN.{ℤ}
 use lib.ListN.{length, length-append}
-use Rattle.decimal.specs.Decimal.{field, signedField}
 use Rattle.decimal.specs.Buffers.{Put}
-use Rattle.decimal.proofs.Places.{places-few, field-size, signed-short}
+use Rattle.decimal.specs.Decimal.{field, signedField}
 use Rattle.decimal.proofs.Buffers.{put-then, put-keeps}
+use Rattle.decimal.proofs.Places.{places-few, field-size, signed-short}
 
 -- a number of at most d + 1 digits, and the byte after it
 pub field-short : (n end d : ℕ) → n < 10 ^ suc d → d ≤ 9 → length (field n end) ≤ d + 2

@@ -10,9 +10,8 @@ use borrow.Author.Tests.{ltb-true, lt-ltb, le-ltb}
 use lib.Dec.{ltb}
 use lib.IntN.{ℤ, pos, negsuc}
 use lib.ListN.{length, length-append}
+use Rattle.decimal.specs.Decimal.{placesUpTo, places, lastDigits, decimal, signedDecimal, field}
 use Rattle.decimal.proofs.Choices.{either}
-use Rattle.decimal.specs.Decimal.{placesUpTo, places, lastDigits, decimal, signedDecimal}
-use Rattle.decimal.specs.Decimal.{field}
 
 -- ---- the count of digits
 -- a number below 10^(j + 1) passes each test of a greater power
@@ -58,7 +57,7 @@ places-hold (suc k) n h = cases (ltb n (10 ^ suc k)) refl (places-hold k n)
     cases false e fewer = h
 
 -- ---- lengths
-pub lastDigits-length : (k n : ℕ) → length (lastDigits k n) ≡ k
+lastDigits-length : (k n : ℕ) → length (lastDigits k n) ≡ k
 lastDigits-length zero n = refl
 lastDigits-length (suc k) n = simp (length-append, lastDigits-length k (n / 10)) (add-one k)
 

@@ -7,9 +7,10 @@ ghost use Rattle.decimal.specs.Buffers.{Put};
 ghost use Rattle.decimal.specs.Decimal.{places, lastDigits, field, signedField};
 use integers::magnitude;
 
-// The bytes that end a field.
+// The byte that ends a field within a line.
 pub const SPACE: u8 = b' ';
 
+// The byte that ends the last field of a line.
 pub const LINE_FEED: u8 = b'\n';
 
 // How many digits a number has.

@@ -33,12 +33,12 @@ valueLines m i [] = []
 valueLines m i (v ∷ vs) = valueLine (zoomPosition m i) v ++ valueLines m (suc i) vs
 
 -- "refused "
-abbrev pub word : List ℕ
-word = 114 ∷ 101 ∷ 102 ∷ 117 ∷ 115 ∷ 101 ∷ 100 ∷ 32 ∷ []
+abbrev pub refusedWord : List ℕ
+refusedWord = 114 ∷ 101 ∷ 102 ∷ 117 ∷ 115 ∷ 101 ∷ 100 ∷ 32 ∷ []
 
 -- the word and the number
 unfoldable pub refusalLine : ℕ → List ℕ
-refusalLine k = word ++ field k 10
+refusalLine k = refusedWord ++ field k 10
 
 -- what is printed of an outcome
 unfoldable pub printed : Outcome → List ℕ
@@ -54,14 +54,15 @@ output t = printed (zoomText t)
 abbrev pub block : ℕ
 block = 65536
 
--- how many lines a part has after the first, and how many parts the longest output has
+-- how many lines of values a part has
 abbrev pub linesOfPart : ℕ
 linesOfPart = 3275
 
+-- how many parts the longest output has, its first line among them
 abbrev pub mostParts : ℕ
 mostParts = 22
 
--- the first line, then lines of values
+-- the first line, and then lines of values; a refusal has one part
 unfoldable pub part : ℕ → Outcome → List ℕ
 part zero (row n m vs) = header n m (length vs)
 part (suc b) (row n m vs) = valueLines m (linesOfPart * b) (take linesOfPart (drop (linesOfPart * b) vs))

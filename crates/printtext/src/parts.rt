@@ -22,9 +22,10 @@ use zoomtext::row_sizes;
 // The bytes of a block. Every part fits one.
 pub const BLOCK: usize = 65536;
 
-// How many values a part has, and how many parts the longest output has with its first line.
+// How many lines of values a part has.
 const LINES_OF_PART: usize = 3275;
 
+// How many parts the longest output has, its first line among them.
 pub const PARTS: usize = 22;
 
 // Where the lines of a part begin, of so many lines; at their end if the part has none.

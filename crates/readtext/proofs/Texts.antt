@@ -22,12 +22,12 @@ lines-last (b ∷ bs) e = by-test (eqb b 10) (lines-last bs) e
   where
     by-test : (t : Bool) → (indexOf 10 bs ≡ length bs → lines bs ≡ one bs) → indexAfter t (indexOf 10 bs) ≡ suc (length bs)
         → cond t ([] ∷⁺ lines bs) (longer b (lines bs)) ≡ one (b ∷ bs)
-    by-test true rest e = let no : ⊥ = omega arith in absurd no
+    by-test true rest e = absurd (omega arith)
     by-test false rest e = ap (longer b) (rest (omega arith))
 
 lines-more : (l : List ℕ) → indexOf 10 l < length l → lines l ≡ take (indexOf 10 l) l ∷⁺ lines (drop (suc (indexOf 10 l)) l)
 unfolding lines indexOf indexAfter
-lines-more [] h = let no : ⊥ = omega arith in absurd no
+lines-more [] h = absurd (omega arith)
 lines-more (b ∷ bs) h = by-test (indexOf 10 bs) (eqb b 10) (lines-more bs) h
   where
     by-test : (k : ℕ) (t : Bool) → (k < length bs → lines bs ≡ take k bs ∷⁺ lines (drop (suc k) bs)) → indexAfter t k < suc (length bs)
@@ -37,7 +37,7 @@ lines-more (b ∷ bs) h = by-test (indexOf 10 bs) (eqb b 10) (lines-more bs) h
 
 numbers-last : (l : List ℕ) → 0 < length l → indexOf 10 l ≡ length l → numbers l ≡ none
 unfolding numbers
-numbers-last [] h e = let no : ⊥ = omega arith in absurd no
+numbers-last [] h e = absurd (omega arith)
 numbers-last (b ∷ bs) h e = ap lineNumbers (lines-last (b ∷ bs) e)
 
 numbers-more : (l : List ℕ) → indexOf 10 l < length l

@@ -13,6 +13,7 @@ use lib.NonEmpty.{List⁺, one, _∷⁺_}
 abbrev pub digit : ℕ → Bool
 digit b = leb 48 b && leb b 57
 
+-- whether every byte is one
 abbrev pub allDigits : List ℕ → Bool
 allDigits [] = true
 allDigits (b ∷ bs) = digit b && allDigits bs
@@ -31,6 +32,7 @@ abbrev pub inRange : Bool → ℕ → Option ℤ
 inRange true v = cond (leb v 32768) (some (negℤ (pos v))) none
 inRange false v = cond (leb v 32767) (some (pos v)) none
 
+-- the number of digits after a sign
 abbrev pub signedNumber : Bool → List ℕ → Option ℤ
 signedNumber minus bs = cond (wellFormed bs) (inRange minus (valueAfter 0 bs)) none
 
@@ -40,6 +42,7 @@ lineNumber [] = none
 lineNumber (b ∷ bs) = cond (eqb b 45) (signedNumber true bs) (signedNumber false (b ∷ bs))
 
 -- ---- a text
+-- a byte before the first line
 abbrev pub longer : ℕ → List⁺ (List ℕ) → List⁺ (List ℕ)
 longer b (one l) = one (b ∷ l)
 longer b (l ∷⁺ ls) = (b ∷ l) ∷⁺ ls

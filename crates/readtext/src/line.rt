@@ -1,6 +1,6 @@
 // The number of one line of text.
-ghost use mathlib.Core.Path.{_≡_};
 ghost use mathlib.Core.Bool.{true};
+ghost use mathlib.Core.Path.{_≡_};
 ghost use Rattle.readtext.specs.Numbers.{allDigits, valueAfter, wellFormed, signedNumber, lineNumber};
 ghost use Rattle.readtext.specs.Readings.{numberRead};
 

@@ -12,8 +12,8 @@ use lib.IntN.{ℤ, pos, negsuc, negℤ}
 use lib.ListN.{length}
 use lib.Signed.{_≤ℤ_}
 use Rattle.decimal.specs.Decimal.{places, lastDigits, decimal, signedDecimal}
-use Rattle.readtext.specs.Numbers.{digit, allDigits, valueAfter, wellFormed, inRange, signedNumber, lineNumber}
 use Rattle.decimal.proofs.Places.{decimal-length, places-few, places-some, places-hold}
+use Rattle.readtext.specs.Numbers.{digit, allDigits, valueAfter, wellFormed, inRange, signedNumber, lineNumber}
 
 -- ---- the digits of a number
 value-append : (a : ℕ) (xs ys : List ℕ) → valueAfter a (xs ++ ys) ≡ valueAfter (valueAfter a xs) ys

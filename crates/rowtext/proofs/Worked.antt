@@ -5,9 +5,9 @@ use mathlib.Core.Path.{_≡_, refl, ap}
 use Prim.Native.Nat.{ℕ}
 use lib.IntN.{pos, negℤ}
 use Rattle.integers.specs.Rounding.{round}
+use Rattle.bspline.specs.Lists.{tabulate}
 use Rattle.bspline.specs.Mirror.{mirror}
 use Rattle.bspline.specs.Recursions.{R, causal, forward, anticausal, backward, coefficient, delivered, coefficients}
-use Rattle.bspline.specs.Lists.{tabulate}
 use Rattle.bspline.specs.Transforms.{rowCoefficients}
 use Rattle.bspline.specs.Values.{weights, rowSum, valueInRow, zoomValues}
 use Rattle.decimal.specs.Decimal.{decimal, signedDecimal}

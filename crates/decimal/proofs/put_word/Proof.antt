@@ -1,11 +1,11 @@
 -- `decimal::put_word` meets its contract: the word is copied whole to the start, and the field is put after it. Assumes nothing.
 use mathlib.Core.List.{List, _++_}
 use mathlib.Core.Path.{ap, _∙_}
+use Prim.Native.Nat.{ℕ}
 use native.Mathlib.Omega.{arith}
 use borrow.Author.Needs.{needs}
 use lib.ListN.{length, drop}
 use lib.Seq.{take-length}
-use Prim.Native.Nat.{ℕ}
 use Rattle.decimal.specs.Buffers.{Put}
 use Rattle.decimal.proofs.Buffers.{put-then, put-start}
 use Rattle.decimal.proofs.put_word.Statement.{statement}

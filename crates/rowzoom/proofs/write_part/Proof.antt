@@ -14,31 +14,16 @@ fits c =
     let e = c .print-part .ensures in
     rw (ap (λ (p : Printed). p .bytes) e, ap (λ (p : Printed). p .out) e) (printed-fits _ _ _ _)
 
-print-part-requires : tie.Need-print-part-requires
-print-part-requires c κs = search needs
-
-slice-reshare-prefix-write-all : tie.Need-slice-reshare-prefix-write-all
-slice-reshare-prefix-write-all c = fits (c .before .before)
-
 slice-aggregate-write-all : tie.Need-slice-aggregate-write-all
 slice-aggregate-write-all c = sym (length-take-le _ _ (fits (c .before .before .before)))
-
-write-all-requires : tie.Need-write-all-requires
-write-all-requires c κs = search needs
-
-same-length : tie.Need-same-length
-same-length c = search needs
-
-returns : tie.Need-returns
-returns c = search needs
 
 pub write-part-spec : {M : Type 1} → statement M
 write-part-spec =
     tie.close
     (tie.spec
-    print-part-requires
-    slice-reshare-prefix-write-all
+    (λ c κs. search needs)
+    (λ c. fits (c .before .before))
     slice-aggregate-write-all
-    write-all-requires
-    same-length
-    returns)
+    (λ c κs. search needs)
+    (λ c. search needs)
+    (λ c. search needs))

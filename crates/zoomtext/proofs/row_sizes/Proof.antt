@@ -4,7 +4,6 @@ use mathlib.Core.Bool.{false}
 use mathlib.Core.Path.{_≡_, sym, _∙_}
 use Prim.Native.Nat.{_-_, _*_, _≤_}
 use native.Mathlib.Omega.{arith}
-use borrow.Author.Needs.{needs}
 use Rattle.bspline.specs.Limits.{longestRow, greatestFactor}
 use Rattle.bspline.specs.Refusals.{outside}
 use Rattle.bspline.proofs.Refusals.{one-to}
@@ -54,4 +53,4 @@ returns-3 c = simp (short (row (c .before)), small (c .before))
 pub row-sizes-spec : {M : Type 1} → statement M
 row-sizes-spec =
     tie.close
-    (tie.spec (λ c κs. search needs) returns (λ c κs. search needs) returns-2 sub-result mul-result add-result returns-3)
+    (tie.spec (λ c κs. tt) returns (λ c κs. tt) returns-2 sub-result mul-result add-result returns-3)

@@ -1,5 +1,5 @@
--- `printtext::lines::put_lines` meets its contract: after each turn the lines of the values before i are put, each in at most as many bytes as the
--- longest line has, and p is the position of the i-th value. The measure is what is left up to `to`. Assumes nothing.
+-- `printtext::lines::put_lines` meets its contract. The invariant: the lines of the values before i are put, each in at most as many bytes as the longest
+-- line has, and p is the position of the i-th value. The measure is what is left up to `to`. Assumes nothing.
 use mathlib.Core.List.{List}
 use mathlib.Core.Path.{_≡_, refl, ap, _∙_}
 use Prim.Native.Nat.{ℕ, _+_, _-_, _*_, _/_, _%_, _≤_, _<_}

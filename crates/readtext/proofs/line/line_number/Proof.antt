@@ -16,7 +16,7 @@ use Rattle.readtext.proofs.line.line_number.Tie as tie
 empty : (l : List ℕ) → length l ≡ 0 → none ≡ lineNumber l
 unfolding lineNumber
 empty [] e = refl
-empty (b ∷ bs) e = let no : ⊥ = omega arith in absurd no
+empty (b ∷ bs) e = absurd (omega arith)
 
 with-minus : (l : List ℕ) → (length l ≡ 0 → ⊥) → getD l 0 0 ≡ 45 → signedNumber true (take (length l - 1) (drop 1 l)) ≡ lineNumber l
 unfolding lineNumber
