@@ -21,4 +21,5 @@ pub mod Refusals
 pub mod Weights
 pub mod Values
 pub mod Zoom
+pub mod Operations
 pub mod Worked

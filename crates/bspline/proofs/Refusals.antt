@@ -1,19 +1,24 @@
 -- What is known where the test of a refusal fails, and of an outcome that tests decide. Assumes nothing.
-use mathlib.Core.Bool.{true, false}
+use mathlib.Core.Bool.{true, false, _||_, _&&_, and-false}
 use mathlib.Core.List.{List, [], _∷_}
-use mathlib.Core.Path.{_≡_, refl}
+use mathlib.Core.Path.{_≡_, refl, sym, ap}
 use mathlib.Mathlib.Data.Bool.Basic.{or-eq-false-eq-eq-false-and-eq-false}
-use Prim.Native.Nat.{ℕ, _≤_, _<_}
+use Prim.Native.Nat.{ℕ, _-_, _≤_, _<_}
 use native.Mathlib.Omega.{arith}
-use borrow.Author.Tests.{ltb-false, eqb-false}
-use lib.Dec.{eqb, ltb}
-use Rattle.bspline.specs.Refusals.{Test, _when_, outside, judged}
+use borrow.Author.Tests.{ltb-false, leb-false, eqb-false, ne-eqb, lt-leb, le-ltb}
+use lib.Dec.{eqb, leb, ltb}
+use Rattle.bspline.specs.Refusals.{Answer, Test, _when_, outside, offData, judged}
+use Rattle.bspline.specs.Values.{Position}
 
 -- a number that is neither 0 nor above a limit
 pub one-to : (limit n : ℕ) → outside limit n ≡ false → (0 < n) × (n ≤ limit)
 one-to limit n e =
     let both = or-eq-false-eq-eq-false-and-eq-false (eqb n 0) (ltb limit n) .0 e in
     (omega (arith, eqb-false n 0 (both .0)), ltb-false limit n (both .1))
+
+-- and a number from 1 to the limit is not
+pub inside : (limit n : ℕ) → 0 < n → n ≤ limit → outside limit n ≡ false
+inside limit n some few = rw (ne-eqb n 0 (λ e. omega arith), le-ltb limit n few)
 
 -- no test's condition holds
 abbrev pub Passed : List Test → Type 0
@@ -26,3 +31,36 @@ pub judged-cases : {A : Type 0} (P : A → Type 0) (tests : List Test) (refuse :
 judged-cases P [] refuse result f p = p tt
 judged-cases P ((k when true) ∷ tests) refuse result f p = f k
 judged-cases P ((k when false) ∷ tests) refuse result f p = judged-cases P tests refuse result f (λ q. p (refl, q))
+
+-- whatever is taken of an outcome is taken of each refusal and of the accepted one
+pub judged-map : {A B : Type 0} (h : A → B) (tests : List Test) (refuse : ℕ → A) (result : A) →
+    h (judged tests refuse result) ≡ judged tests (λ k. h (refuse k)) (h result)
+judged-map h [] refuse result = refl
+judged-map h ((k when true) ∷ tests) refuse result = refl
+judged-map h ((k when false) ∷ tests) refuse result = judged-map h tests refuse result
+
+-- where no condition holds the call is accepted
+pub judged-passed : {A : Type 0} (tests : List Test) (refuse : ℕ → A) (result : A) → Passed tests → judged tests refuse result ≡ result
+judged-passed [] refuse result p = refl
+judged-passed ((k when true) ∷ tests) refuse result p = let z : _≡_ {A = ℕ} 0 1 = cc (p .0) in absurd (omega arith)
+judged-passed ((k when false) ∷ tests) refuse result p = judged-passed tests refuse result (p .1)
+
+-- an outcome whose answer is no refusal is the accepted one, and no condition holds
+pub judged-accepted : {A : Type 0} (answer : A → Answer) (tests : List Test) (refuse : ℕ → A) (result o : A) →
+    ((k : ℕ) → answer (refuse k) ≡ answer o → ⊥) → o ≡ judged tests refuse result → Passed tests × (o ≡ result)
+judged-accepted answer [] refuse result o never e = (tt, e)
+judged-accepted answer ((k when true) ∷ tests) refuse result o never e = absurd (never k (ap answer (sym e)))
+judged-accepted answer ((k when false) ∷ tests) refuse result o never e =
+    let rest = judged-accepted answer tests refuse result o never e in ((refl, rest .0), rest .1)
+
+-- ---- positions
+-- a position that is not off n data has its numerator below the factor and its place below n
+pub on-data : (m n : ℕ) (p : Position) → 0 < n → offData m n p ≡ false → (p .j < m) × (p .k < n)
+on-data m n p some e =
+    let both = or-eq-false-eq-eq-false-and-eq-false (leb m (p .j) || ltb (n - 1) (p .k)) (eqb (p .k) (n - 1) && ltb 0 (p .j)) .0 e in
+    let each = or-eq-false-eq-eq-false-and-eq-false (leb m (p .j)) (ltb (n - 1) (p .k)) .0 (both .0) in
+    (leb-false m (p .j) (each .0), omega (arith, ltb-false (n - 1) (p .k) (each .1)))
+
+-- a sample's own place is on the data
+pub sample-on-data : (m n k : ℕ) → 0 < m → k < n → offData m n (record { k = k; j = 0 }) ≡ false
+sample-on-data m n k some inside = rw (lt-leb m 0 some, le-ltb (n - 1) k (omega arith)) (and-false (eqb k (n - 1)))

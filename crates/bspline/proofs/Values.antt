@@ -21,7 +21,7 @@ use Rattle.bspline.specs.PictureLayout.{Shape, pixel}
 use Rattle.bspline.specs.Lists.{at}
 use Rattle.bspline.specs.Values.{Position, rowSum, pictureSum, valueInRow, valueInPicture, RowValueAccurate, PictureValueAccurate}
 use Rattle.bspline.proofs.Existence.{solution, solution-solves, picture-solution, picture-solves}
-use Rattle.bspline.proofs.Weights.{sixth, sum-near, picture-sum-near, sum-same, sum-at-sample, sums-exchanged}
+use Rattle.bspline.proofs.Weights.{sixth, picture-sum-rows, sum-near, picture-sum-near, sum-same, sum-at-sample, sums-exchanged}
 
 -- ---- one value
 -- a distance with its divisor b in the factors, as the laws of sums take it
@@ -136,9 +136,8 @@ solution-at-sample m n s c solves k l =
 -- the weighted sum of a picture's solution at a pixel is 36m⁶ times the pixel: by the equations of the columns, and of a row of the picture between
 solution-at-pixel : (m : ℕ) (d : Shape) (p c : Grid) → SolvesPicture (d .width) (d .height) p c → (x y : ℕ) → x < d .width → y < d .height →
     pos (p .den) *ℤ pictureSum m d (c .num) (sample x) (sample y) ≡ pos (36 * m ^ 6 * c .den) *ℤ p .num x y
-unfolding pictureSum
 solution-at-pixel m d p c solves x y l u =
-    rw (sums-exchanged m (d .width) (d .height) (c .num) x y, sixth m)
+    rw (picture-sum-rows m d (c .num) (sample x) (sample y), sums-exchanged m (d .width) (d .height) (c .num) x y, sixth m)
     (*ℤ-cancel (pos (b .den)) (show (simp reify tt) (omega (arith, b .above)))
     (joined (pos (m ^ 3)) (pos (b .den)) (pos (c .den)) (pos (p .den))
     (rowSum m (d .width) down (sample x)) (rowSum m (d .width) across (sample x)) (p .num x y)

@@ -2,13 +2,13 @@
 -- add up to 6m³. So a weighted sum of numbers within B is within 6m³ × B (`weighted-within`), and the weighted sums of two rows that differ by at
 -- most B differ by at most 6m³ × B. A picture's sum is the sum along a column of sums along rows, so there the factor is 6m³ × 6m³ = 36m⁶.
 -- At a sample, j = 0, a row's sum is m³ times the 1-4-1 sum. Assumes nothing.
-use mathlib.Core.List.{List, [], _∷_, map, foldr}
+use mathlib.Core.List.{List, [], _∷_, _++_, map, foldr, append-nil}
 use mathlib.Core.Path.{_≡_, refl, sym, ap, ap₂, subst, _∙_}
 use Prim.Native.Nat.{ℕ, suc, _+_, _-_, _*_, _^_, _≤_, _<_}
 use native.Mathlib.Nat.{add-zero, zero-add, pow-zero, pow-suc, mul-le-mul, mul-le-mul-left, add-sub-of-le}
 use native.Mathlib.Omega.{arith}
-use lib.IntN.{ℤ, pos, natAbs, _+ℤ_, _-ℤ_, _*ℤ_}
-use lib.ListN.{length}
+use lib.IntN.{ℤ, pos, natAbs, _+ℤ_, _-ℤ_, _*ℤ_, +ℤ-idl, +ℤ-idr, +ℤ-assoc, *ℤ-zero}
+use lib.ListN.{length, length-map}
 use Rattle.integers.specs.Rounding.{round}
 use Rattle.integers.proofs.Absolute.{abs-add, abs-mul, abs-zero}
 use Rattle.integers.proofs.Laws.{diff-zero, zero-diff}
@@ -20,7 +20,7 @@ use Rattle.bspline.specs.Limits.{greatestFactor}
 use Rattle.bspline.specs.Mirror.{mirror}
 use Rattle.bspline.specs.PictureLayout.{Shape}
 use Rattle.bspline.specs.Lists.{tabulate, at}
-use Rattle.bspline.specs.Values.{Position, cube, weights, support, dot, rowSum, pictureSum, valueInRow}
+use Rattle.bspline.specs.Values.{Position, cube, weights, support, dot, products, block, rowSum, pictureSum, valueInRow}
 use Rattle.bspline.proofs.Bounds.{rest-within}
 use Rattle.bspline.proofs.Mirror.{mirror-below}
 
@@ -134,7 +134,45 @@ pub value-between : (m k j : ℕ) (c l : List ℤ) → l ≡ support (length c) 
 unfolding valueInRow rowSum
 value-between m k j c l e = ap (λ l. round (dot (weights m j) l) (96 * m ^ 3)) (e ∙ support-whole (length c) k c)
 
--- ---- how far apart weighted sums are
+-- ---- the sum over sixteen coefficients of a picture, as a sum of sums along rows
+dot-append : (u v r s : List ℤ) → length u ≡ length r → dot (u ++ v) (r ++ s) ≡ dot u r +ℤ dot v s
+dot-append [] v [] s e = sym (+ℤ-idl (dot v s))
+dot-append [] v (b ∷ r) s e = absurd (omega arith)
+dot-append (a ∷ u) v [] s e = absurd (omega arith)
+dot-append (a ∷ u) v (b ∷ r) s e =
+    ap (λ x. a *ℤ b +ℤ x) (dot-append u v r s (omega arith)) ∙ sym (+ℤ-assoc (a *ℤ b) (dot u r) (dot v s))
+
+dot-scaled : (a : ℤ) (w r : List ℤ) → dot (map (λ b. a *ℤ b) w) r ≡ a *ℤ dot w r
+dot-scaled a [] r = sym (*ℤ-zero a)
+dot-scaled a (b ∷ w) [] = sym (*ℤ-zero a)
+dot-scaled a (b ∷ w) (c ∷ r) = ap (λ x. a *ℤ b *ℤ c +ℤ x) (dot-scaled a w r) ∙ ring (a ∷ b ∷ c ∷ dot w r ∷ []) (simp polys tt) tt
+
+-- one row more: its sum times its weight
+one-row : (a : ℤ) (w v r s : List ℤ) → length w ≡ length r → dot (map (λ b. a *ℤ b) w ++ v) (r ++ s) ≡ a *ℤ dot w r +ℤ dot v s
+one-row a w v r s e = dot-append (map (λ b. a *ℤ b) w) v r s (length-map w (λ b. a *ℤ b) ∙ e) ∙ ap (λ x. x +ℤ dot v s) (dot-scaled a w r)
+
+-- four rows
+four-rows : (a b c e : ℤ) (w p q r s : List ℤ) → length w ≡ length p → length w ≡ length q → length w ≡ length r →
+    dot (products (a ∷ b ∷ c ∷ e ∷ []) w) (p ++ (q ++ (r ++ s))) ≡ dot (a ∷ b ∷ c ∷ e ∷ []) (dot w p ∷ dot w q ∷ dot w r ∷ dot w s ∷ [])
+four-rows a b c e w p q r s f g h =
+    one-row a w _ p _ f
+    ∙ ap (λ x. a *ℤ dot w p +ℤ x) (one-row b w _ q _ g
+    ∙ ap (λ x. b *ℤ dot w q +ℤ x) (one-row c w _ r _ h
+    ∙ ap (λ x. c *ℤ dot w r +ℤ x) (ap (λ v. dot v s) (append-nil (map (λ y. e *ℤ y) w)) ∙ dot-scaled e w s ∙ sym (+ℤ-idr (e *ℤ dot w s)))))
+
+pub picture-sum-rows : (m : ℕ) (d : Shape) (c : ℕ → ℕ → ℤ) (px py : Position) →
+    pictureSum m d c px py ≡ rowSum m (d .height) (λ y. rowSum m (d .width) (λ x. c x y) px) py
+unfolding pictureSum rowSum weights block tabulate
+picture-sum-rows m d c px py =
+    four-rows (weight 0) (weight 1) (weight 2) (weight 3) (weights m (px .j)) (row 0) (row 1) (row 2) (row 3) refl refl refl
+  where
+    -- the weight of the i-th row, and its four numbers
+    weight : ℕ → ℤ
+    weight = at (weights m (py .j))
+
+    row : ℕ → List ℤ
+    row i = support (d .width) (λ x. c x (mirror (d .height) (pos (py .k + i) -ℤ pos 1))) (px .k)
+
 module _ (D X : ℕ) where
   -- D × a - X × b is at most B in size
   abbrev Apart : ℕ → ℤ → ℤ → Type 0
@@ -184,14 +222,13 @@ sum-near m n p l some f g D X B h =
 pub picture-sum-near : (m : ℕ) (d : Shape) (px py : Position) → px .j ≤ m → py .j ≤ m → 0 < d .width → 0 < d .height →
     (f g : ℕ → ℕ → ℤ) (D X B : ℕ) → ((x y : ℕ) → x < d .width → y < d .height → natAbs (pos D *ℤ f x y -ℤ pos X *ℤ g x y) ≤ B) →
     natAbs (pos D *ℤ pictureSum m d f px py -ℤ pos X *ℤ pictureSum m d g px py) ≤ 36 * m ^ 6 * B
-unfolding pictureSum
 picture-sum-near m d px py lx ly wide high f g D X B h =
-    omega (
+    rw (picture-sum-rows m d f px py, picture-sum-rows m d g px py) (omega (
       arith,
       ap (λ v. v * B) (sixth m),
       sum-near m (d .height) py ly high (along f) (along g) D X (6 * m ^ 3 * B)
           (λ y u. sum-near m (d .width) px lx wide (λ x. f x y) (λ x. g x y) D X B (λ x v. h x y v u)),
-    )
+    ))
   where
     -- the sum along row y
     along : (ℕ → ℕ → ℤ) → ℕ → ℤ

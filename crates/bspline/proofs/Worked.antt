@@ -1,7 +1,7 @@
 -- The marked examples M1 to M13 of "Checked examples" hold, by computing. And the exact solutions among them, M7, M8, M9 and M13, are the
 -- only ones: whatever solves the equations of the listed data equals the listed numbers, by uniqueness. Assumes nothing.
 use mathlib.Core.List.{List, [], _∷_, List·Memᴰ, List·Memᴰ·head, List·Memᴰ·tail}
-use mathlib.Core.Path.{refl}
+use mathlib.Core.Path.{_≡_, refl}
 use Prim.Native.Nat.{ℕ, zero, suc, _<_}
 use native.Mathlib.Omega.{arith}
 use borrow.Author.Count.{below-none, below-more}
@@ -14,7 +14,7 @@ use Rattle.bspline.specs.Mirror.{mirror}
 use Rattle.bspline.specs.Recursions.{R, causal, forward, anticausal, backward, coefficient, delivered, coefficients}
 use Rattle.bspline.specs.Lists.{tabulate}
 use Rattle.bspline.specs.Transforms.{rowCoefficients}
-use Rattle.bspline.specs.Values.{weights}
+use Rattle.bspline.specs.Values.{weights, rowSum, valueInRow}
 use Rattle.bspline.proofs.Uniqueness.{unique, picture-unique}
 
 -- P 0, .., P (n - 1), the last first
@@ -70,3 +70,9 @@ all-hold e (h also a) (List·Memᴰ·tail m) = all-hold e a m
 -- the listed solutions of M7, M8, M9 and M13 are the only ones
 pub listed-solutions-unique : (e : Example) → List·Memᴰ e examples → OnlySolution e
 listed-solutions-unique e m = holds-only e (all-hold e examples-hold m)
+
+-- a value is not clamped: of the greatest and of the least coefficient it is far outside of 256 times the samples
+pub not-clamped : (valueInRow 1 (pos 2147483647 ∷ []) (record { k = 0; j = 0 }) ≡ pos 134217728)
+    × (valueInRow 1 (negℤ (pos 2147483648) ∷ []) (record { k = 0; j = 0 }) ≡ negℤ (pos 134217728))
+unfolding valueInRow rowSum weights round mirror tabulate
+not-clamped = (refl, refl)

@@ -1,5 +1,5 @@
 -- Values of the spline between samples: "Values between samples". Assumes nothing.
-use mathlib.Core.List.{List, [], _∷_}
+use mathlib.Core.List.{List, [], _∷_, _++_, map}
 use Prim.Native.Nat.{ℕ, _+_, _-_, _*_, _/_, _%_, _^_}
 use lib.IntN.{ℤ, pos, _+ℤ_, _-ℤ_, _*ℤ_}
 use lib.ListN.{length}
@@ -40,9 +40,22 @@ dot (a ∷ k) (b ∷ l) = a *ℤ b +ℤ dot k l
 unfoldable pub rowSum : ℕ → ℕ → (ℕ → ℤ) → Position → ℤ
 rowSum m n c p = dot (weights m (p .j)) (support n c (p .k))
 
--- in a picture the weights multiply: the sum along rows, then along columns
+-- in a picture the weights multiply: each of the one list with each of the other
+abbrev pub products : List ℤ → List ℤ → List ℤ
+products [] w = []
+products (a ∷ v) w = map (λ b. a *ℤ b) w ++ products v w
+
+-- the sixteen coefficients around a position of a picture, row after row: four rows from l - 1 on, continued past the top and the bottom, and of each
+-- row the four numbers from k - 1 on
+unfoldable pub block : Shape → (ℕ → ℕ → ℤ) → ℕ → ℕ → List ℤ
+block d c k l = four 0 ++ (four 1 ++ (four 2 ++ four 3))
+  where
+    four : ℕ → List ℤ
+    four i = support (d .width) (λ x. c x (mirror (d .height) (pos (l + i) -ℤ pos 1))) k
+
+-- the sum over the sixteen
 unfoldable pub pictureSum : ℕ → Shape → (ℕ → ℕ → ℤ) → Position → Position → ℤ
-pictureSum m d c px py = rowSum m (d .height) (λ y. rowSum m (d .width) (λ x. c x y) px) py
+pictureSum m d c px py = dot (products (weights m (py .j)) (weights m (px .j))) (block d c (px .k) (py .k))
 
 -- the row value, N / (96m³) rounded to nearest
 unfoldable pub valueInRow : ℕ → List ℤ → Position → ℤ

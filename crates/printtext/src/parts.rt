@@ -2,13 +2,14 @@
 ghost use mathlib.Core.Bool.{true};
 ghost use mathlib.Core.Path.{_≡_};
 ghost use Prim.Native.Nat.{_*_, _≤_, min};
+ghost use lib.Dec.{ltb};
 ghost use lib.ListN.{length};
 ghost use Rattle.answers.specs.Answers.{number};
 ghost use Rattle.decimal.specs.Buffers.{Put};
 ghost use Rattle.zoomtext.specs.Answers.{rowSizes, found};
 ghost use Rattle.zoomtext.specs.Outcomes.{refused};
 ghost use Rattle.zoomtext.specs.declared.Zoomed.the-variants.{Row};
-ghost use Rattle.printtext.specs.Output.{block, linesOfPart, part as Output·part};
+ghost use Rattle.printtext.specs.Output.{block, linesOfPart, mostParts, part as Output·part};
 ghost use Rattle.printtext.specs.Printing.{printPart};
 use crate::lines::put_header;
 use crate::lines::put_lines;
@@ -26,7 +27,14 @@ pub const BLOCK: usize = 65536;
 const LINES_OF_PART: usize = 3275;
 
 // How many parts the longest output has, its first line among them.
-pub const PARTS: usize = 22;
+const PARTS: usize = 22;
+
+// Whether a part is one of those that make up every output.
+pub fn more_parts(part: usize) -> bool
+    ensures { λ r. ⌜ r ≡ ltb part mostParts ⌝ }
+{
+    part < PARTS
+}
 
 // Where the lines of a part begin, of so many lines; at their end if the part has none.
 fn first_line(part: usize, count: usize) -> usize
@@ -77,7 +85,7 @@ fn print_row_part(s: Sizes, values: &[i32], part: usize, out: &mut [u8]) -> usiz
     put_row_part(s, values, part, out)
 }
 
-// Part of the output: the bytes that rowzoom prints are parts 0 to 21, one after the other. Answers how many bytes it has put at the start of
+// Part of the output: the bytes that rowzoom prints are the parts from 0 on for which `more_parts` holds, one after the other. Answers how many bytes it has put at the start of
 // the buffer, which has a block's bytes or more.
 pub fn print_part(zoomed: Zoomed, values: &[i32], part: usize, out: &mut [u8]) -> usize
     ensures { λ r. ⌜ record { bytes = r; out = now (out .exit) } ≡ printPart zoomed (now (values .entry)) part (now (out .entry)) ⌝ }

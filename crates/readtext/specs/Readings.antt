@@ -2,7 +2,7 @@
 use mathlib.Core.List.{List}
 use mathlib.Core.Option.{Option, none, some}
 use mathlib.Core.Path.{_≡_}
-use Prim.Native.Nat.{ℕ, _≤_}
+use Prim.Native.Nat.{ℕ}
 use lib.IntN.{ℤ}
 use lib.ListN.{length, take}
 use Rattle.readtext.specs.Numbers.{numbers}
@@ -16,7 +16,14 @@ abbrev pub numberRead : Number → Option ℤ
 numberRead (Is z) = some z
 numberRead NoNumber = none
 
+-- a legal text has so many numbers, of which as many as a buffer holds are at its start
+pub record Holds (t : List ℕ) (buffer : List ℤ) (n : ℕ) : Type 0 where
+  pub all : List ℤ
+  pub legal : numbers t ≡ some all
+  pub count : length all ≡ n
+  pub begin : take (length buffer) all ≡ take n buffer
+
 -- what was read of a text, into a buffer
 abbrev pub Reads : List ℕ → List ℤ → Numbers → Type 0
-Reads t buffer (Count n) = (n ≤ length buffer) × (numbers t ≡ some (take n buffer))
+Reads t buffer (Count n) = Holds t buffer n
 Reads t buffer Illegal = numbers t ≡ none

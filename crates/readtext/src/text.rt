@@ -1,6 +1,6 @@
 // The numbers of a text, a line each.
-ghost use Prim.Native.Nat.{_≤_};
-ghost use lib.ListN.{length};
+ghost use mathlib.Core.Path.{_≡_};
+ghost use lib.ListN.{set};
 ghost use Rattle.readtext.specs.Readings.{Reads};
 use crate::line::Number;
 use crate::line::line_number;
@@ -11,9 +11,17 @@ pub enum Numbers {
     Illegal,
 }
 
-// The numbers of a text, from the buffer's start, which has room for as many as the text has bytes.
+// Puts a number at a place of the buffer, if it has that place.
+fn keep(buffer: &mut [i16], at: usize, z: i16)
+    ensures { λ _. ⌜ now (buffer .exit) ≡ set (now (buffer .entry)) at z ⌝ }
+{
+    if at < buffer.len() {
+        buffer[at] = z;
+    }
+}
+
+// The count of a text's numbers, of which as many as the buffer holds are put at its start.
 pub fn read_numbers(text: &[u8], buffer: &mut [i16]) -> Numbers
-    requires { ⌜ length (now text) ≤ length (now buffer) ⌝ }
     ensures { λ r. ⌜ Reads (now (text .entry)) (now (buffer .exit)) r ⌝ }
 {
     let mut from = 0;
@@ -27,7 +35,7 @@ pub fn read_numbers(text: &[u8], buffer: &mut [i16]) -> Numbers
         let Number::Is(z) = number else {
             return Numbers::Illegal;
         };
-        buffer[count] = z;
+        keep(buffer, count, z);
         count += 1;
         from = end + 1;
     }

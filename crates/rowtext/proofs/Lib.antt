@@ -2,3 +2,4 @@
 pub mod WholeOutput
 pub mod ReadBack
 pub mod Worked
+pub mod TextToBytes

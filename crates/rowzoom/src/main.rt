@@ -1,11 +1,11 @@
-// rowzoom: reads a factor and samples as text, and prints the values of the row's spline. What a text means and what is printed are the crate
-// rowtext's; this program reads, calls it and writes.
-use rowtext::LONGEST_TEXT;
-use rowtext::MOST_VALUES;
+// rowzoom: reads a factor and samples as text, and prints the values of the row's spline. What a text means, what is printed, how long the arrays
+// are and which parts there are is the crate rowtext's; this program reads, calls it and writes.
 use rowtext::Zoomed;
-use rowtext::output::BLOCK;
-use rowtext::output::PARTS;
+use rowtext::output::more_parts;
 use rowtext::output::print_part;
+use rowtext::zoom::judge_text;
+use rowtext::zoom::text_room;
+use rowtext::zoom::value_room;
 use rowtext::zoom::zoom_text;
 
 fn write_part(zoomed: Zoomed, values: &[i32], part: usize, block: &mut [u8]) {
@@ -15,18 +15,21 @@ fn write_part(zoomed: Zoomed, values: &[i32], part: usize, block: &mut [u8]) {
 
 fn write_output(zoomed: Zoomed, values: &[i32], block: &mut [u8]) {
     let mut part = 0;
-    while part < PARTS {
+    while more_parts(part) {
         write_part(zoomed, values, part, block);
         part += 1;
     }
 }
 
+// The array of the text serves for each part of the output once the text has been read, and values are listed only for a text that has any.
 fn main() {
-    // One byte more than the longest text, so that a longer one is seen.
-    let mut text = [0u8; LONGEST_TEXT + 1];
-    let n = io::read_full(0, &mut text);
-    let mut values = [0i32; MOST_VALUES];
-    let zoomed = zoom_text(&text[..n], &mut values);
-    let mut block = [0u8; BLOCK];
-    write_output(zoomed, &values, &mut block);
+    let mut bytes = text_room();
+    let n = io::read_full(0, &mut bytes);
+    let judged = judge_text(&bytes[..n]);
+    let Zoomed::Row(_) = judged else {
+        return write_output(judged, &[0; 1], &mut bytes);
+    };
+    let mut values = value_room();
+    let zoomed = zoom_text(&bytes[..n], &mut values);
+    write_output(zoomed, &values, &mut bytes);
 }

@@ -1,3 +1,5 @@
 -- The laws from which the functions of `zoomtext` are proved, and the bounds of sizes that a text can have.
 pub mod RowSizes
 pub mod SamplesOutcome
+pub mod Judging
+pub mod TextOutcome

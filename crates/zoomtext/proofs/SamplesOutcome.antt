@@ -14,11 +14,11 @@ use Rattle.bspline.specs.Limits.{longestRow, greatestFactor, workWords}
 use Rattle.bspline.specs.Outcomes.{rowTransform, rowZoom}
 use Rattle.bspline.specs.Refusals.{Answer, count, value, refusal, outside}
 use Rattle.bspline.specs.Transforms.{rowCoefficients}
-use Rattle.bspline.specs.Values.{zoomCount, zoomValues}
+use Rattle.bspline.specs.Values.{zoomCount}
 use Rattle.bspline.proofs.Transforms.{row-length}
 use Rattle.bspline.proofs.Zoom.{zoom-length}
 use Rattle.zoomtext.specs.Answers.{listed}
-use Rattle.zoomtext.specs.Outcomes.{refused, kept, zoomSamples}
+use Rattle.zoomtext.specs.Outcomes.{declined, kept, zoomSamples}
 
 -- samples whose count is not refused, with as many coefficients at the start of a buffer
 pub record Coefficients (s : List ℤ) (n : ℕ) (c : List ℤ) : Type 0 where
@@ -31,7 +31,7 @@ pub record Coefficients (s : List ℤ) (n : ℕ) (c : List ℤ) : Type 0 where
 abbrev pub Told : ℕ → List ℤ → List ℤ → Answer → List ℤ → Type 0
 Told m s buffer (count n) c = Coefficients s n c
 Told m s buffer (value v) c = ⊥
-Told m s buffer (refusal k) c = record { outcome = refused k; values = buffer } ≡ kept (zoomSamples m s) buffer
+Told m s buffer (refusal k) c = record { answer = declined k; values = buffer } ≡ kept (zoomSamples m s) buffer
 
 module _ (m : ℕ) (s buffer c work : List ℤ) (room : longestRow ≤ length c) (words : workWords longestRow ≤ length work) where
   told-by : (a b : Bool) → eqb (length s) 0 ≡ a → ltb longestRow (length s) ≡ b →
@@ -59,9 +59,7 @@ module _ (m : ℕ) (s buffer c : List ℤ) (n : ℕ) (t : Coefficients s n c) wh
   listed-by true b bad long = simp (row-length, t .some, t .short, bad)
   listed-by false true bad long = simp (row-length, t .some, t .short, bad, zoom-length, long)
   listed-by false false bad long =
-      let all = zoomCount m (length s) in
-      let values = zoomValues m (rowCoefficients s) in
-      simp (row-length, t .some, t .short, bad, zoom-length, long, take-at values (drop all buffer) all (simp (zoom-length, row-length)))
+      simp (row-length, t .some, t .short, bad, zoom-length, long)
 
   pub listed-kept : listed (length (take n c)) m (rowZoom m (take n c) buffer) ≡ kept (zoomSamples m s) buffer
   listed-kept =

@@ -1,16 +1,18 @@
 -- The sizes and answers of `zoomtext` and the answers of row zoom, read as outcomes of a text. Assumes nothing.
-use mathlib.Core.Bool.{Bool, not, _&&_}
-use mathlib.Core.List.{List}
-use Prim.Native.Nat.{ℕ}
+use mathlib.Core.Bool.{Bool, not, _&&_, cond}
+use mathlib.Core.List.{List, [], _∷_}
+use mathlib.Core.Option.{some}
+use mathlib.Core.Path.{_≡_}
+use Prim.Native.Nat.{ℕ, _-_}
 use lib.Dec.{eqb}
 use lib.IntN.{ℤ}
-use lib.ListN.{take}
+use lib.ListN.{length, take}
 use Rattle.bspline.specs.Limits.{longestRow, greatestFactor}
 use Rattle.bspline.specs.Outcomes.{Evaluated}
-use Rattle.bspline.specs.Refusals.{Answer, count, value, refusal, outside}
+use Rattle.bspline.specs.Refusals.{Answer, count, value, refusal, outside, refusal-1, refusal-2, refusal-7, judged}
 use Rattle.bspline.specs.Values.{zoomCount}
 use Rattle.answers.specs.Answers.{number}
-use Rattle.zoomtext.specs.Outcomes.{Outcome, row, refused, Kept}
+use Rattle.zoomtext.specs.Outcomes.{Outcome, row, refused, Reply, sized, declined, Kept, kept, factorOf, zoomNumbers}
 use Rattle.zoomtext.specs.declared.Sizes.{Sizes}
 use Rattle.zoomtext.specs.declared.Zoomed.{Zoomed}
 use Rattle.zoomtext.specs.declared.Zoomed.the-variants.{Row, Refused}
@@ -25,12 +27,33 @@ abbrev pub found : Zoomed → List ℤ → Outcome
 found (Row s) values = row (s .samples) (s .factor) (take (s .values) values)
 found (Refused r) values = refused (number r)
 
--- what row zoom answers of n coefficients at the factor m: it answers no value
-abbrev pub answered : ℕ → ℕ → List ℤ → Answer → Outcome
-answered n m values (count k) = row n m (take k values)
-answered n m values (value v) = refused 0
-answered n m values (refusal k) = refused k
+-- what was answered of a text
+abbrev pub replied : Zoomed → Reply
+replied (Row s) = sized (s .samples) (s .factor) (s .values)
+replied (Refused r) = declined (number r)
 
--- the same with its buffer
+-- what row zoom answers of n coefficients at the factor m, which is no value, and its buffer
+abbrev pub replyOf : ℕ → ℕ → Answer → Reply
+replyOf n m (count k) = sized n m k
+replyOf n m (value v) = declined 0
+replyOf n m (refusal k) = declined k
+
 abbrev pub listed : ℕ → ℕ → Evaluated → Kept
-listed n m o = record { outcome = answered n m (o .values) (o .answer); values = o .values }
+listed n m o = record { answer = replyOf n m (o .answer); values = o .values }
+
+-- what is answered of n numbers, the first of which is f: without a first one 10, then 1, 2 and 7 of the others
+abbrev pub judgedNumbers : ℕ → ℤ → Reply
+judgedNumbers n f =
+    cond (eqb n 0) (declined 10)
+    (judged (refusal-1 (n - 1) ∷ refusal-2 longestRow (n - 1) ∷ refusal-7 (factorOf f) ∷ [])
+    declined
+    (sized (n - 1) (factorOf f) (zoomCount (factorOf f) (n - 1))))
+
+-- a list of n numbers, of which as many as a buffer holds are at its start
+pub record Begun (l : List ℤ) (n : ℕ) (buffer : List ℤ) : Type 0 where
+  pub count : length l ≡ n
+  pub begin : take (length buffer) l ≡ take n buffer
+
+-- the outcome of every such list, with the values in a buffer
+abbrev pub ZoomsNumbers : ℕ → List ℤ → List ℤ → Kept → Type 0
+ZoomsNumbers n numbers buffer o = (l : List ℤ) → Begun l n numbers → o ≡ kept (zoomNumbers (some l)) buffer

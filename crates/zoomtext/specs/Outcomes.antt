@@ -41,15 +41,25 @@ zoomNumbers (some (f ∷ s)) = zoomSamples (factorOf f) s
 unfoldable pub zoomText : List ℕ → Outcome
 zoomText t = cond (ltb longestText (length t)) (refused 10) (zoomNumbers (numbers t))
 
--- ---- the values in a buffer: the outcome, and the buffer afterwards
+-- ---- what is answered of a text
+-- the samples, the factor and the count of values of a row, or a refusal by its number
+pub data Reply : Type 0 where
+  sized : ℕ → ℕ → ℕ → Reply
+  declined : ℕ → Reply
+
+abbrev pub reply : Outcome → Reply
+reply (row n m vs) = sized n m (length vs)
+reply (refused k) = declined k
+
+-- with the values in a buffer: what is answered, and the buffer afterwards
 pub record Kept : Type 0 where
-  pub outcome : Outcome
+  pub answer : Reply
   pub values : List ℤ
 
 -- a refused text changes nothing; a buffer that is shorter than the values is refused as 9, after all others
 unfoldable pub kept : Outcome → List ℤ → Kept
-kept (refused k) buffer = record { outcome = refused k; values = buffer }
+kept (refused k) buffer = record { answer = declined k; values = buffer }
 kept (row n m vs) buffer =
     cond (ltb (length buffer) (length vs))
-    (record { outcome = refused 9; values = buffer })
-    (record { outcome = row n m vs; values = overwrite vs buffer })
+    (record { answer = declined 9; values = buffer })
+    (record { answer = sized n m (length vs); values = overwrite vs buffer })

@@ -1,12 +1,16 @@
 // The values of the samples that a text holds. specs/Outcomes.antt defines what a text gives.
-ghost use mathlib.Core.Option.{some};
+pub mod room;
+
 ghost use mathlib.Core.Path.{_≡_};
+ghost use Prim.Native.Nat.{_+_};
 ghost use lib.ListN.{length};
+ghost use Rattle.bspline.specs.Limits.{longestRow};
 ghost use Rattle.bspline.specs.Outcomes.{rowZoom};
-ghost use Rattle.zoomtext.specs.Answers.{rowSizes, found, listed};
-ghost use Rattle.zoomtext.specs.Outcomes.{factorOf, kept, zoomSamples, zoomNumbers, zoomText};
+ghost use Rattle.zoomtext.specs.Answers.{rowSizes, replied, listed, judgedNumbers, ZoomsNumbers};
+ghost use Rattle.zoomtext.specs.Outcomes.{factorOf, reply, kept, zoomSamples, zoomText};
 use answers::Refusal;
 use answers::Written;
+use answers::checks::bad_factor;
 use answers::checks::outside;
 use answers::limits::GREATEST_FACTOR;
 use answers::limits::LONGEST_ROW;
@@ -55,7 +59,7 @@ fn factor_of(f: i16) -> usize
 // The values of coefficients at a factor, from the buffer's start.
 fn zoom_row(coefficients: &[i32], m: usize, values: &mut [i32]) -> Zoomed
     ensures { λ r. ⌜
-        record { outcome = found r (now (values .exit)); values = now (values .exit) }
+        record { answer = replied r; values = now (values .exit) }
         ≡ listed (length (now (coefficients .entry))) m (rowZoom m (now (coefficients .entry)) (now (values .entry))) ⌝ }
 {
     match spline::row::zoom(coefficients, m, values) {
@@ -71,7 +75,7 @@ fn zoom_row(coefficients: &[i32], m: usize, values: &mut [i32]) -> Zoomed
 // The values of samples at a factor, from the buffer's start.
 fn zoom_samples(samples: &[i16], m: usize, values: &mut [i32]) -> Zoomed
     ensures { λ r. ⌜
-        record { outcome = found r (now (values .exit)); values = now (values .exit) }
+        record { answer = replied r; values = now (values .exit) }
         ≡ kept (zoomSamples m (now (samples .entry))) (now (values .entry)) ⌝ }
 {
     let mut coefficients = [0i32; LONGEST_ROW];
@@ -82,30 +86,72 @@ fn zoom_samples(samples: &[i16], m: usize, values: &mut [i32]) -> Zoomed
     }
 }
 
-// The values of numbers: the first is the factor, the others are the samples.
-fn zoom_numbers(numbers: &[i16], values: &mut [i32]) -> Zoomed
+// The values of n numbers, of which the first LONGEST_ROW + 1 are given: the first is the factor, the others are the samples.
+fn zoom_numbers(numbers: &[i16], n: usize, values: &mut [i32]) -> Zoomed
+    requires { ⌜ length (now numbers) ≡ longestRow + 1 ⌝ }
     ensures { λ r. ⌜
-        record { outcome = found r (now (values .exit)); values = now (values .exit) }
-        ≡ kept (zoomNumbers (some (now (numbers .entry)))) (now (values .entry)) ⌝ }
+        ZoomsNumbers n (now (numbers .entry)) (now (values .entry)) (record { answer = replied r; values = now (values .exit) }) ⌝ }
 {
-    if numbers.len() == 0 {
+    if n == 0 {
         return Zoomed::Refused(Refusal::BadText);
     }
+    if numbers.len() < n {
+        return Zoomed::Refused(Refusal::LongRow);
+    }
     let m = factor_of(numbers[0]);
-    zoom_samples(&numbers[1..], m, values)
+    zoom_samples(&numbers[1..n], m, values)
 }
 
 // Text to values: the values of a text's samples at its factor, from the buffer's start.
 pub fn zoom_text(text: &[u8], values: &mut [i32]) -> Zoomed
-    ensures { λ r. ⌜
-        record { outcome = found r (now (values .exit)); values = now (values .exit) } ≡ kept (zoomText (now (text .entry))) (now (values .entry)) ⌝ }
+    ensures { λ r. ⌜ record { answer = replied r; values = now (values .exit) } ≡ kept (zoomText (now (text .entry))) (now (values .entry)) ⌝ }
 {
     if LONGEST_TEXT < text.len() {
         return Zoomed::Refused(Refusal::BadText);
     }
-    let mut numbers = [0i16; LONGEST_TEXT];
+    let mut numbers = [0i16; LONGEST_ROW + 1];
     match read_numbers(text, &mut numbers) {
-        Numbers::Count(n) => zoom_numbers(&numbers[..n], values),
+        Numbers::Count(n) => zoom_numbers(&numbers, n, values),
+        Numbers::Illegal => Zoomed::Refused(Refusal::BadText),
+    }
+}
+
+// What is answered of n numbers, by the first of them.
+fn judge_numbers(first: i16, n: usize) -> Zoomed
+    ensures { λ r. ⌜ replied r ≡ judgedNumbers n first ⌝ }
+{
+    if n == 0 {
+        return Zoomed::Refused(Refusal::BadText);
+    }
+    let samples = n - 1;
+    if samples == 0 {
+        return Zoomed::Refused(Refusal::EmptyRow);
+    }
+    if LONGEST_ROW < samples {
+        return Zoomed::Refused(Refusal::LongRow);
+    }
+    let factor = factor_of(first);
+    if bad_factor(factor) {
+        return Zoomed::Refused(Refusal::BadFactor);
+    }
+    let values = (samples - 1) * factor + 1;
+    Zoomed::Row(Sizes {
+        samples,
+        factor,
+        values,
+    })
+}
+
+// Whether a text is refused, and what sizes its row has, before there is a buffer for its values.
+pub fn judge_text(text: &[u8]) -> Zoomed
+    ensures { λ r. ⌜ replied r ≡ reply (zoomText (now (text .entry))) ⌝ }
+{
+    if LONGEST_TEXT < text.len() {
+        return Zoomed::Refused(Refusal::BadText);
+    }
+    let mut first = [0i16; 1];
+    match read_numbers(text, &mut first) {
+        Numbers::Count(n) => judge_numbers(first[0], n),
         Numbers::Illegal => Zoomed::Refused(Refusal::BadText),
     }
 }

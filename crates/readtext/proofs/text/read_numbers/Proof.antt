@@ -25,7 +25,7 @@ abbrev μ-loop : tie.MeasureT-loop
 μ-loop text buffer₀ from₀ count₀ buffer from count = length text - from
 
 loop-holds : tie.Need-loop-holds Inv-loop μ-loop
-loop-holds c = let s = c .before in (progress-none (s .args .text .now) (s .args .buffer .now) (s .pre), refl)
+loop-holds c = let s = c .before in (progress-none (s .args .text .now) (s .args .buffer .now), refl)
 
 -- where the line ends
 module _ (c : tie.After-find Inv-loop μ-loop) where
@@ -64,16 +64,20 @@ module _ (c : tie.After-line-number Inv-loop μ-loop) where
       progress-more (so-far found) (found .before .loop-test .taken) (found .find .ensures .0) inside z
       (sym (ap numberRead e) ∙ c .line-number .ensures)
 
+-- the number of a line, kept in the buffer
 loop-again : tie.Need-loop-again Inv-loop μ-loop
 loop-again c =
-    let n = c .before in
+    let k = c .before in
+    let n = k .before .before .before in
     let l = n .before .before in
     let z = n .number .given .0 .0 in
-    let f : SFits w16 z = sfits-of (c .known-told .given .0 .1) in
-    (rw (toZ-ofZ f) (more l z (n .number .given .1)), simp length-set (at-loop (found l) .loop .inv .1))
+    let f : SFits w16 z = sfits-of (k .before .before .known-told .given .0 .1) in
+    let i = at-loop (found l) .loop in
+    let kept : k .keep .last .0 ≡ set (i .buffer) (i .count) z = rw (toZ-ofZ f) at (k .keep .ensures) in
+    (rw kept (more l z (n .number .given .1)), rw (kept, length-set) (i .inv .1))
 
 returns-3 : tie.Need-returns-3 Inv-loop μ-loop
-returns-3 c = let l = c .before .loop in (omega arith, progress-all (l .inv .0) (c .loop-test .left))
+returns-3 c = progress-all (c .before .loop .inv .0) (c .loop-test .left)
 
 pub read-numbers-spec : {M : Type 1} → statement M
 read-numbers-spec =
@@ -93,8 +97,7 @@ read-numbers-spec =
     (λ c. omega arith)
     (λ c. at-loop (found (c .before .before)) .loop .inv .1)
     (λ c. illegal (c .before .before) (c .enum-told .given .1))
-    (λ c. omega arith)
-    (λ c. omega arith)
+    (λ c κs. tt)
     (λ c. omega arith)
     (λ c. omega arith)
     (λ c. omega arith)

@@ -1,0 +1,238 @@
+-- Demands 2 and 3 of values, about operations: what row value, row zoom and picture value answer of the coefficients that an accepted transform
+-- leaves, in a buffer of whatever length. From the two clauses of the transform's contract: the outcome, which tells the count and that the
+-- coefficients begin the buffer, and the accuracy, from which the values' distances and the return of the samples follow. Assumes nothing.
+use mathlib.Core.Bool.{false, _||_}
+use mathlib.Core.List.{List, [], _∷_}
+use mathlib.Core.Path.{_≡_, refl, sym, ap, ap₂, _∙_}
+use mathlib.Mathlib.Data.Bool.Basic.{or-eq-false-eq-eq-false-and-eq-false}
+use Prim.Native.Nat.{ℕ, max, _-_, _*_, _≤_, _<_}
+use native.Mathlib.Nat.{mod-lt, mul-le-mul-right, mul-div-cancel, mul-mod-left}
+use native.Mathlib.Omega.{arith}
+use borrow.Author.Tests.{ltb-false, eqb-false, ne-eqb, eq-eqb, le-ltb}
+use lib.IntN.{ℤ, pos, _*ℤ_}
+use lib.ListN.{length, take, drop, length-append, List·getD-append}
+use lib.Seq.{getD-take, take-at}
+use Rattle.bspline.specs.Exact.{RowAccurate, PictureAccurate}
+use Rattle.bspline.specs.Limits.{longestRow, longestSide, greatestFactor, workWords}
+use Rattle.bspline.specs.Lists.{at}
+use Rattle.bspline.specs.Outcomes.{overwrite, Transformed, Evaluated, refused, accepted, rowTransform, rowZoom, rowValue, pictureTransform, pictureValue}
+use Rattle.bspline.specs.PictureLayout.{Shape, area, place, pixel}
+use Rattle.bspline.specs.Refusals.{Answer, count, value, refusal, Test, outside, badSides, offData, refusal-1, refusal-2, refusal-3, refusal-4-pixels, refusal-4-coefficients, refusal-5, refusal-6, refusal-7, refusal-8, refusal-9, judged}
+use Rattle.bspline.specs.Transforms.{rowCoefficients, pictureCoefficients}
+use Rattle.bspline.specs.Values.{Position, zoomPosition, zoomCount, zoomValues, valueInRow, valueInPicture, RowValueAccurate, PictureValueAccurate}
+use Rattle.bspline.proofs.Lists.{tabulate-from-zero}
+use Rattle.bspline.proofs.PictureLayout.{place-below}
+use Rattle.bspline.proofs.Refusals.{Passed, judged-passed, judged-accepted, one-to, inside, on-data, sample-on-data}
+use Rattle.bspline.proofs.Transforms.{row-length, picture-length}
+use Rattle.bspline.proofs.Zoom.{zoom-length}
+use Rattle.bspline.proofs.Values.{row-value-accurate, sample-returns, picture-value-accurate, pixel-returns}
+
+-- ---- what an accepted transform leaves
+-- a transform that answers a count n has made so many numbers, no test's condition holds, and the numbers begin the buffer
+transform-taken : (tests : List Test) (q words : ℕ) (made buffer work C W : List ℤ) (n : ℕ) → length made ≡ q →
+    record { answer = count n; coefficients = C; work = W } ≡ judged tests (refused buffer work) (accepted q made words buffer work) →
+    Passed tests × (n ≡ q) × (take n C ≡ made) × (n ≤ length C)
+transform-taken tests q words made buffer work C W n l e =
+    let never : (k : ℕ) → refusal k ≡ count n → ⊥ = λ k f. let z : _≡_ {A = ℕ} 0 1 = cc in omega arith in
+    let t = judged-accepted (λ (o : Transformed). o .answer) tests (refused buffer work) (accepted q made words buffer work) _ never e in
+    let same : n ≡ q = let f = ap (λ (o : Transformed). o .answer) (t .1) in cc in
+    let rest = drop (length made) buffer in (
+      t .0,
+      same,
+      ap (λ (o : Transformed). take n (o .coefficients)) (t .1) ∙ take-at made rest n (l ∙ sym same),
+      omega (arith, same, l, ap (λ (o : Transformed). length (o .coefficients)) (t .1), length-append made rest),
+    )
+
+-- an answer that is a value is that of the accepted call, and no test's condition holds
+value-taken : (tests : List Test) (v w : ℤ) → judged tests refusal (value w) ≡ value v → Passed tests × (v ≡ w)
+value-taken tests v w e =
+    let never : (k : ℕ) → refusal k ≡ value v → ⊥ = λ k f. let z : _≡_ {A = ℕ} 0 1 = cc in omega arith in
+    let t = judged-accepted (λ (a : Answer). a) tests refusal (value w) (value v) never (sym e) in
+    (t .0, let f = t .1 in cc)
+
+-- ---- rows
+-- a row of n samples was taken, and the coefficients of it that are in the buffer are accurate
+pub record RowTaken (s C : List ℤ) (n : ℕ) : Type 0 where
+  pub count : n ≡ length s
+  pub some : 0 < n
+  pub short : n ≤ longestRow
+  pub room : n ≤ length C
+  pub begins : take n C ≡ rowCoefficients s
+  pub accurate : RowAccurate s C
+
+-- from the two clauses of the row transform
+pub row-taken : (s buffer work C W : List ℤ) (n : ℕ) →
+    record { answer = count n; coefficients = C; work = W } ≡ rowTransform s buffer work → RowAccurate s C → RowTaken s C n
+unfolding rowTransform
+row-taken s buffer work C W n e a =
+    let t =
+    transform-taken (refusal-1 (length s) ∷ refusal-2 longestRow (length s) ∷ refusal-5 (length s) work ∷ refusal-6 (length s) buffer ∷ [])
+    (length s) (workWords (length s)) (rowCoefficients s) buffer work C W n (row-length s) e in
+    record {
+      count = t .1;
+      some = omega (arith, eqb-false (length s) 0 (t .0 .0));
+      short = omega (arith, ltb-false longestRow (length s) (t .0 .1 .0));
+      room = t .3;
+      begins = t .2;
+      accurate = a;
+    }
+
+module _ (s C : List ℤ) (n : ℕ) (taken : RowTaken s C n) where
+  -- the n numbers are as many as the samples, and as accurate as in the whole buffer
+  long : length (take n C) ≡ length s
+  long = ap length (taken .begins) ∙ row-length s
+
+  near : RowAccurate s (take n C)
+  near = record { accurate = λ c solves k h. rw (getD-take n C k (pos 0) (omega (arith, taken .count))) (taken .accurate .accurate c solves k h) }
+
+  -- whatever value row value answers of them is within 19/32
+  pub row-value-near : (m : ℕ) (p : Position) (v : ℤ) → rowValue m (take n C) p ≡ value v → RowValueAccurate m s p v
+  unfolding rowValue
+  row-value-near m p v e =
+      let t =
+      value-taken
+      (refusal-1 (length (take n C)) ∷ refusal-2 longestRow (length (take n C)) ∷ refusal-7 m ∷ refusal-8 (offData m (length (take n C)) p) ∷ [])
+      v (valueInRow m (take n C) p) e in
+      let factor = one-to greatestFactor m (t .0 .1 .1 .0) in
+      let on = on-data m (length (take n C)) p (omega (arith, long, taken .some, taken .count)) (t .0 .1 .1 .1 .0) in
+      rw (t .1) (row-value-accurate m (factor .0) s (take n C) p (omega (arith, on .0)) (omega (arith, taken .some, taken .count)) long near)
+
+  -- and at a sample it answers 256 times the sample
+  pub row-value-returns : (m k : ℕ) → 0 < m → m ≤ greatestFactor → k < n → rowValue m (take n C) (record { k = k; j = 0 }) ≡ value (pos 256 *ℤ at s k)
+  unfolding rowValue
+  row-value-returns m k some small below =
+      let l = take n C in
+      judged-passed
+      (refusal-1 (length l) ∷ refusal-2 longestRow (length l) ∷ refusal-7 m ∷ refusal-8 (offData m (length l) (record { k = k; j = 0 })) ∷ [])
+      refusal (value (valueInRow m l (record { k = k; j = 0 }))) (
+        ne-eqb (length l) 0 (λ e. omega (arith, long, taken .some, taken .count)),
+        (
+          le-ltb longestRow (length l) (omega (arith, long, taken .short, taken .count)),
+          (inside greatestFactor m some small, (sample-on-data m (length l) k some (omega (arith, long, taken .count)), tt)),
+        ),
+      )
+      ∙ ap value (sample-returns m some s l long near k (omega (arith, taken .count)))
+
+  -- what row zoom leaves where it answers a count q: the values at the first q positions begin the buffer
+  record Listed (m : ℕ) (vs : List ℤ) (q : ℕ) : Type 0 where
+    factor : (0 < m) × (m ≤ greatestFactor)
+    count : q ≡ zoomCount m n
+    values : (i : ℕ) → i < q → at vs i ≡ valueInRow m (take n C) (zoomPosition m i)
+
+  listed : (m : ℕ) (buffer vs : List ℤ) (q : ℕ) → record { answer = count q; values = vs } ≡ rowZoom m (take n C) buffer → Listed m vs q
+  unfolding rowZoom zoomValues
+  listed m buffer vs q e =
+      let l = take n C in
+      let size = zoomCount m (length l) in
+      let conditions = refusal-1 (length l) ∷ refusal-2 longestRow (length l) ∷ refusal-7 m ∷ refusal-9 size buffer ∷ [] in
+      let refuse : ℕ → Evaluated = λ k. record { answer = refusal k; values = buffer } in
+      let outcome : Evaluated = record { answer = count size; values = overwrite (zoomValues m l) buffer } in
+      let never : (k : ℕ) → refusal k ≡ count q → ⊥ = λ k f. let z : _≡_ {A = ℕ} 0 1 = cc in omega arith in
+      let t = judged-accepted (λ (o : Evaluated). o .answer) conditions refuse outcome _ never e in
+      let same : q ≡ size = let f = ap (λ (o : Evaluated). o .answer) (t .1) in cc in
+      record {
+        factor = one-to greatestFactor m (t .0 .1 .1 .0);
+        count = same ∙ ap (zoomCount m) (long ∙ sym (taken .count));
+        values = λ i h.
+            ap (λ (o : Evaluated). at (o .values) i) (t .1)
+            ∙ List·getD-append (zoomValues m l) (drop (length (zoomValues m l)) buffer) (pos 0) i (omega (arith, same, zoom-length m l))
+            ∙ tabulate-from-zero _ size i (omega (arith, same));
+      }
+
+  -- every value that row zoom lists of them is within 19/32
+  pub row-zoom-near : (m : ℕ) (buffer vs : List ℤ) (q : ℕ) → record { answer = count q; values = vs } ≡ rowZoom m (take n C) buffer →
+      (i : ℕ) → i < q → RowValueAccurate m s (zoomPosition m i) (at vs i)
+  row-zoom-near m buffer vs q e i h =
+      let t = listed m buffer vs q e in
+      rw (t .values i h)
+      (row-value-accurate m (t .factor .0) s (take n C) (zoomPosition m i) (omega (arith, mod-lt i (t .factor .0))) (omega (arith, taken .some, taken .count)) long near)
+
+  -- and the one at the place of a sample is 256 times the sample
+  pub row-zoom-returns : (m : ℕ) (buffer vs : List ℤ) (q : ℕ) → record { answer = count q; values = vs } ≡ rowZoom m (take n C) buffer →
+      (k : ℕ) → k < n → at vs (k * m) ≡ pos 256 *ℤ at s k
+  row-zoom-returns m buffer vs q e k h =
+      let t = listed m buffer vs q e in
+      let below : k * m < q = omega (arith, t .count, mul-le-mul-right m (pred-le h)) in
+      t .values (k * m) below
+      ∙ ap₂ (λ (a b : ℕ). valueInRow m (take n C) (record { k = a; j = b })) (mul-div-cancel k (t .factor .0)) (mul-mod-left k m)
+      ∙ sample-returns m (t .factor .0) s (take n C) long near k (omega (arith, taken .count))
+    where
+      pred-le : {k n : ℕ} → k < n → k ≤ n - 1
+      pred-le h = omega arith
+
+-- ---- pictures
+-- a picture of n pixels was taken, and the coefficients of it that are in the buffer are accurate
+pub record PictureTaken (d : Shape) (p C : List ℤ) (n : ℕ) : Type 0 where
+  pub count : n ≡ area d
+  pub sides : badSides d ≡ false
+  pub room : n ≤ length C
+  pub begins : take n C ≡ pictureCoefficients d p
+  pub accurate : PictureAccurate d p C
+
+-- from the two clauses of the picture transform
+pub picture-taken : (d : Shape) (p buffer work C W : List ℤ) (n : ℕ) →
+    record { answer = count n; coefficients = C; work = W } ≡ pictureTransform d p buffer work → PictureAccurate d p C → PictureTaken d p C n
+unfolding pictureTransform
+picture-taken d p buffer work C W n e a =
+    let longer = max (d .width) (d .height) in
+    let t =
+    transform-taken (refusal-3 d ∷ refusal-4-pixels d p ∷ refusal-5 longer work ∷ refusal-6 (area d) buffer ∷ [])
+    (area d) (workWords longer) (pictureCoefficients d p) buffer work C W n (picture-length d p) e in
+    record { count = t .1; sides = t .0 .0; room = t .3; begins = t .2; accurate = a }
+
+module _ (d : Shape) (p C : List ℤ) (n : ℕ) (taken : PictureTaken d p C n) where
+  -- each side is from 1 to the longest
+  wide : (0 < d .width) × (d .width ≤ longestSide)
+  wide =
+      one-to longestSide (d .width)
+      (or-eq-false-eq-eq-false-and-eq-false (outside longestSide (d .width)) (outside longestSide (d .height)) .0 (taken .sides) .0)
+
+  high : (0 < d .height) × (d .height ≤ longestSide)
+  high =
+      one-to longestSide (d .height)
+      (or-eq-false-eq-eq-false-and-eq-false (outside longestSide (d .width)) (outside longestSide (d .height)) .0 (taken .sides) .1)
+
+  -- the numbers are as many as the pixels, and as accurate as in the whole buffer
+  full : length (take n C) ≡ area d
+  full = ap length (taken .begins) ∙ picture-length d p
+
+  close : PictureAccurate d p (take n C)
+  close = record {
+    accurate = λ c solves x y h g.
+        rw (getD-take n C (place d x y) (pos 0) (omega (arith, taken .count, place-below d x y h g))) (taken .accurate .accurate c solves x y h g);
+  }
+
+  -- the tests of picture value
+  abbrev tests : ℕ → Position → Position → List Test
+  tests m px py =
+      refusal-3 d ∷ refusal-4-coefficients d (take n C) ∷ refusal-7 m ∷ refusal-8 (offData m (d .width) px || offData m (d .height) py) ∷ []
+
+  -- whatever value picture value answers of them is within 15/16
+  pub picture-value-near : (m : ℕ) (px py : Position) (v : ℤ) → pictureValue m d (take n C) px py ≡ value v → PictureValueAccurate m d p px py v
+  unfolding pictureValue
+  picture-value-near m px py v e =
+      let t = value-taken (tests m px py) v (valueInPicture m d (take n C) px py) e in
+      let factor = one-to greatestFactor m (t .0 .1 .1 .0) in
+      let both = or-eq-false-eq-eq-false-and-eq-false (offData m (d .width) px) (offData m (d .height) py) .0 (t .0 .1 .1 .1 .0) in
+      let on-x = on-data m (d .width) px (wide .0) (both .0) in
+      let on-y = on-data m (d .height) py (high .0) (both .1) in
+      rw (t .1)
+      (picture-value-accurate m (factor .0) d p (take n C) px py (omega (arith, on-x .0)) (omega (arith, on-y .0)) (wide .0) (high .0) close)
+
+  -- and at a pixel it answers 256 times the pixel
+  pub picture-value-returns : (m x y : ℕ) → 0 < m → m ≤ greatestFactor → x < d .width → y < d .height →
+      pictureValue m d (take n C) (record { k = x; j = 0 }) (record { k = y; j = 0 }) ≡ value (pos 256 *ℤ pixel d p x y)
+  unfolding pictureValue
+  picture-value-returns m x y some small left above =
+      judged-passed (tests m (record { k = x; j = 0 }) (record { k = y; j = 0 })) refusal
+      (value (valueInPicture m d (take n C) (record { k = x; j = 0 }) (record { k = y; j = 0 }))) (
+        taken .sides,
+        (
+          rw (eq-eqb (length (take n C)) (area d) full) refl,
+          (
+            inside greatestFactor m some small,
+            (rw (sample-on-data m (d .width) x some left, sample-on-data m (d .height) y some above) refl, tt),
+          ),
+        ),
+      )
+      ∙ ap value (pixel-returns m some d p (take n C) close x y left above)
