@@ -8,7 +8,7 @@ use lib.ListN.{length, take, drop, length-drop, drop-of-length-le}
 use lib.Seq.{length-take-le, take-all, take-nil, take-length, take-take}
 use Rattle.bspline.specs.Limits.{longestRow, greatestFactor}
 use Rattle.bspline.specs.Values.{zoomCount}
-use Rattle.zoomtext.specs.Outcomes.{row}
+use Rattle.judgetext.specs.Outcomes.{row}
 use Rattle.printtext.specs.Lines.{between, Lines}
 use Rattle.printtext.specs.Output.{valueLines, block, linesOfPart, part}
 

@@ -8,8 +8,8 @@ use borrow.Author.Tests.{lt-leb, le-leb}
 use lib.IntN.{ℤ}
 use lib.ListN.{length}
 use Rattle.decimal.specs.Buffers.{Put}
-use Rattle.zoomtext.specs.Answers.{found}
-use Rattle.zoomtext.specs.declared.Zoomed.{Zoomed}
+use Rattle.judgetext.specs.Answers.{found}
+use Rattle.judgetext.specs.declared.Zoomed.{Zoomed}
 use Rattle.printtext.specs.Output.{block, part}
 use Rattle.printtext.specs.Printing.{Printed, held, printPart}
 

@@ -5,7 +5,7 @@ use lib.IntN.{ℤ}
 use lib.ListN.{length, take, drop}
 use Rattle.bspline.specs.Values.{Position, zoomPosition}
 use Rattle.decimal.specs.Decimal.{field, signedField}
-use Rattle.zoomtext.specs.Outcomes.{Outcome, row, refused, zoomText}
+use Rattle.judgetext.specs.Outcomes.{Outcome, row, refused, zoomText}
 
 -- "rowzoom "
 abbrev pub name : List ℕ

@@ -6,9 +6,9 @@ use lib.Dec.{leb}
 use lib.IntN.{ℤ}
 use lib.ListN.{length}
 use Rattle.decimal.specs.Buffers.{put}
-use Rattle.zoomtext.specs.Answers.{rowSizes, found}
-use Rattle.zoomtext.specs.declared.Zoomed.{Zoomed}
-use Rattle.zoomtext.specs.declared.Zoomed.the-variants.{Row, Refused}
+use Rattle.judgetext.specs.Answers.{rowSizes, found}
+use Rattle.judgetext.specs.declared.Zoomed.{Zoomed}
+use Rattle.judgetext.specs.declared.Zoomed.the-variants.{Row, Refused}
 use Rattle.printtext.specs.Output.{block, part}
 
 -- how many bytes are printed, and the buffer afterwards

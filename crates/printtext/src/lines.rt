@@ -6,7 +6,7 @@ ghost use Rattle.bspline.specs.Limits.{longestRow, greatestFactor};
 ghost use Rattle.bspline.specs.Values.{zoomPosition};
 ghost use Rattle.answers.specs.Answers.{placed};
 ghost use Rattle.decimal.specs.Buffers.{Put};
-ghost use Rattle.zoomtext.specs.Limits.{mostValues};
+ghost use Rattle.judgetext.specs.Limits.{mostValues};
 ghost use Rattle.printtext.specs.Lines.{between, Lines};
 ghost use Rattle.printtext.specs.Output.{header, longestHeader, valueLine, longestLine, valueLines};
 use answers::Position;
@@ -15,7 +15,7 @@ use decimal::SPACE;
 use decimal::put_field;
 use decimal::put_signed;
 use decimal::put_word;
-use zoomtext::Sizes;
+use judgetext::Sizes;
 
 // The first line of values.
 pub(crate) fn put_header(s: Sizes, out: &mut [u8]) -> usize

@@ -6,9 +6,9 @@ ghost use lib.Dec.{ltb};
 ghost use lib.ListN.{length};
 ghost use Rattle.answers.specs.Answers.{number};
 ghost use Rattle.decimal.specs.Buffers.{Put};
-ghost use Rattle.zoomtext.specs.Answers.{rowSizes, found};
-ghost use Rattle.zoomtext.specs.Outcomes.{refused};
-ghost use Rattle.zoomtext.specs.declared.Zoomed.the-variants.{Row};
+ghost use Rattle.judgetext.specs.Answers.{rowSizes, found};
+ghost use Rattle.judgetext.specs.Outcomes.{refused};
+ghost use Rattle.judgetext.specs.declared.Zoomed.the-variants.{Row};
 ghost use Rattle.printtext.specs.Output.{block, linesOfPart, mostParts, part as Output·part};
 ghost use Rattle.printtext.specs.Printing.{printPart};
 use crate::lines::put_header;
@@ -16,9 +16,9 @@ use crate::lines::put_lines;
 use answers::Refusal;
 use decimal::LINE_FEED;
 use decimal::put_word;
-use zoomtext::Sizes;
-use zoomtext::Zoomed;
-use zoomtext::row_sizes;
+use judgetext::Sizes;
+use judgetext::Zoomed;
+use judgetext::row_sizes;
 
 // The bytes of a block. Every part fits one.
 pub const BLOCK: usize = 65536;

@@ -12,12 +12,13 @@ use lib.Seq.{take-at}
 use Rattle.bspline.specs.Outcomes.{overwrite}
 use Rattle.bspline.specs.Values.{zoomCount}
 use Rattle.answers.specs.Answers.{number}
-use Rattle.zoomtext.specs.Answers.{found, replied}
-use Rattle.zoomtext.specs.Limits.{mostValues}
-use Rattle.zoomtext.specs.Outcomes.{Outcome, row, refused, sized, declined, Kept, kept, zoomText}
-use Rattle.zoomtext.specs.declared.Sizes.{Sizes}
-use Rattle.zoomtext.specs.declared.Zoomed.{Zoomed}
-use Rattle.zoomtext.specs.declared.Zoomed.the-variants.{Row, Refused}
+use Rattle.judgetext.specs.Answers.{found, replied}
+use Rattle.judgetext.specs.Limits.{mostValues}
+use Rattle.judgetext.specs.Outcomes.{Outcome, row, refused, sized, declined, zoomText}
+use Rattle.zoomtext.specs.Kept.{Kept, kept}
+use Rattle.judgetext.specs.declared.Sizes.{Sizes}
+use Rattle.judgetext.specs.declared.Zoomed.{Zoomed}
+use Rattle.judgetext.specs.declared.Zoomed.the-variants.{Row, Refused}
 use Rattle.printtext.specs.Output.{output, block, mostParts, part, parts}
 use Rattle.printtext.specs.Printing.{Printed, held, printPart}
 use Rattle.rowtext.proofs.WholeOutput.{Fitting, few, text-fitting, parts-output}

@@ -21,11 +21,11 @@ use Rattle.bspline.proofs.Zoom.{zoom-length}
 use Rattle.decimal.proofs.Buffers.{put-start-fits}
 use Rattle.decimal.proofs.Choices.{either}
 use Rattle.readtext.specs.Numbers.{numbers}
-use Rattle.zoomtext.specs.Answers.{found}
-use Rattle.zoomtext.specs.Limits.{longestText, mostValues}
-use Rattle.zoomtext.specs.Outcomes.{Outcome, row, refused, factorOf, zoomSamples, zoomNumbers, zoomText}
-use Rattle.zoomtext.specs.declared.Zoomed.{Zoomed}
-use Rattle.zoomtext.proofs.RowSizes.{count-inside}
+use Rattle.judgetext.specs.Answers.{found}
+use Rattle.judgetext.specs.Limits.{longestText, mostValues}
+use Rattle.judgetext.specs.Outcomes.{Outcome, row, refused, factorOf, zoomSamples, zoomNumbers, zoomText}
+use Rattle.judgetext.specs.declared.Zoomed.{Zoomed}
+use Rattle.judgetext.proofs.RowSizes.{count-inside}
 use Rattle.printtext.specs.Output.{header, valueLines, refusalLine, printed, output, block, linesOfPart, mostParts, part, parts}
 use Rattle.printtext.specs.Printing.{held, Printed, printPart}
 use Rattle.printtext.proofs.ValueLines.{lines-split}

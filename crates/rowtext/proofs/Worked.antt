@@ -12,7 +12,7 @@ use Rattle.bspline.specs.Transforms.{rowCoefficients}
 use Rattle.bspline.specs.Values.{weights, rowSum, valueInRow, zoomValues}
 use Rattle.decimal.specs.Decimal.{decimal, signedDecimal}
 use Rattle.readtext.specs.Numbers.{lineNumber, lines, numbers}
-use Rattle.zoomtext.specs.Outcomes.{row, zoomSamples, zoomText}
+use Rattle.judgetext.specs.Outcomes.{row, zoomSamples, zoomText}
 use Rattle.printtext.specs.Output.{header, valueLine, valueLines, refusalLine, printed, output}
 
 -- "-00005" is -5, "-0" is 0

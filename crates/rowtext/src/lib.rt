@@ -5,6 +5,6 @@ pub mod output;
 pub mod zoom;
 
 pub use answers::limits::MOST_VALUES;
-pub use zoomtext::LONGEST_TEXT;
-pub use zoomtext::Sizes;
-pub use zoomtext::Zoomed;
+pub use judgetext::LONGEST_TEXT;
+pub use judgetext::Sizes;
+pub use judgetext::Zoomed;

@@ -1,5 +1,2 @@
--- The laws from which the functions of `zoomtext` are proved, and the bounds of sizes that a text can have.
-pub mod RowSizes
+-- The law from which the functions of `zoomtext` are proved.
 pub mod SamplesOutcome
-pub mod Judging
-pub mod TextOutcome

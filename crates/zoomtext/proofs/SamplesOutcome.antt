@@ -17,8 +17,9 @@ use Rattle.bspline.specs.Transforms.{rowCoefficients}
 use Rattle.bspline.specs.Values.{zoomCount}
 use Rattle.bspline.proofs.Transforms.{row-length}
 use Rattle.bspline.proofs.Zoom.{zoom-length}
-use Rattle.zoomtext.specs.Answers.{listed}
-use Rattle.zoomtext.specs.Outcomes.{declined, kept, zoomSamples}
+use Rattle.zoomtext.specs.Kept.{listed}
+use Rattle.judgetext.specs.Outcomes.{declined, zoomSamples}
+use Rattle.zoomtext.specs.Kept.{kept}
 
 -- samples whose count is not refused, with as many coefficients at the start of a buffer
 pub record Coefficients (s : List ℤ) (n : ℕ) (c : List ℤ) : Type 0 where

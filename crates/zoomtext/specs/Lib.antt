@@ -1,4 +1,2 @@
--- What a text gives, and the enum of `zoomtext` read as that.
-pub mod Limits
-pub mod Outcomes
-pub mod Answers
+-- The values of a text in a buffer.
+pub mod Kept

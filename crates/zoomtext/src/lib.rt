@@ -1,60 +1,22 @@
-// The values of the samples that a text holds. specs/Outcomes.antt defines what a text gives.
-pub mod room;
-
+// Text to values: the values of the samples that a text holds, from a buffer's start.
 ghost use mathlib.Core.Path.{_≡_};
 ghost use Prim.Native.Nat.{_+_};
 ghost use lib.ListN.{length};
 ghost use Rattle.bspline.specs.Limits.{longestRow};
 ghost use Rattle.bspline.specs.Outcomes.{rowZoom};
-ghost use Rattle.zoomtext.specs.Answers.{rowSizes, replied, listed, judgedNumbers, ZoomsNumbers};
-ghost use Rattle.zoomtext.specs.Outcomes.{factorOf, reply, kept, zoomSamples, zoomText};
+ghost use Rattle.judgetext.specs.Answers.{replied};
+ghost use Rattle.judgetext.specs.Outcomes.{zoomSamples, zoomText};
+ghost use Rattle.zoomtext.specs.Kept.{kept, listed, ZoomsNumbers};
 use answers::Refusal;
 use answers::Written;
-use answers::checks::bad_factor;
-use answers::checks::outside;
-use answers::limits::GREATEST_FACTOR;
 use answers::limits::LONGEST_ROW;
 use answers::limits::LONGEST_ROW_WORK;
+use judgetext::LONGEST_TEXT;
+use judgetext::Sizes;
+use judgetext::Zoomed;
+use judgetext::factor_of;
 use readtext::text::Numbers;
 use readtext::text::read_numbers;
-
-// The longest text that is read, in bytes.
-pub const LONGEST_TEXT: usize = 65536;
-
-// What an accepted text has: its samples, its factor and the count of its values.
-pub struct Sizes {
-    pub samples: usize,
-    pub factor: usize,
-    pub values: usize,
-}
-
-// What a text gives: values, or the refusal.
-pub enum Zoomed {
-    Row(Sizes),
-    Refused(Refusal),
-}
-
-// Whether a text can have these sizes.
-pub fn row_sizes(s: Sizes) -> bool
-    ensures { λ r. ⌜ r ≡ rowSizes s ⌝ }
-{
-    let n = s.samples;
-    let m = s.factor;
-    if outside(LONGEST_ROW, n) {
-        return false;
-    }
-    if outside(GREATEST_FACTOR, m) {
-        return false;
-    }
-    s.values == (n - 1) * m + 1
-}
-
-// The factor that a number means.
-fn factor_of(f: i16) -> usize
-    ensures { λ r. ⌜ r ≡ factorOf f ⌝ }
-{
-    if f < 0 { 0 } else { f as usize }
-}
 
 // The values of coefficients at a factor, from the buffer's start.
 fn zoom_row(coefficients: &[i32], m: usize, values: &mut [i32]) -> Zoomed
@@ -112,46 +74,6 @@ pub fn zoom_text(text: &[u8], values: &mut [i32]) -> Zoomed
     let mut numbers = [0i16; LONGEST_ROW + 1];
     match read_numbers(text, &mut numbers) {
         Numbers::Count(n) => zoom_numbers(&numbers, n, values),
-        Numbers::Illegal => Zoomed::Refused(Refusal::BadText),
-    }
-}
-
-// What is answered of n numbers, by the first of them.
-fn judge_numbers(first: i16, n: usize) -> Zoomed
-    ensures { λ r. ⌜ replied r ≡ judgedNumbers n first ⌝ }
-{
-    if n == 0 {
-        return Zoomed::Refused(Refusal::BadText);
-    }
-    let samples = n - 1;
-    if samples == 0 {
-        return Zoomed::Refused(Refusal::EmptyRow);
-    }
-    if LONGEST_ROW < samples {
-        return Zoomed::Refused(Refusal::LongRow);
-    }
-    let factor = factor_of(first);
-    if bad_factor(factor) {
-        return Zoomed::Refused(Refusal::BadFactor);
-    }
-    let values = (samples - 1) * factor + 1;
-    Zoomed::Row(Sizes {
-        samples,
-        factor,
-        values,
-    })
-}
-
-// Whether a text is refused, and what sizes its row has, before there is a buffer for its values.
-pub fn judge_text(text: &[u8]) -> Zoomed
-    ensures { λ r. ⌜ replied r ≡ reply (zoomText (now (text .entry))) ⌝ }
-{
-    if LONGEST_TEXT < text.len() {
-        return Zoomed::Refused(Refusal::BadText);
-    }
-    let mut first = [0i16; 1];
-    match read_numbers(text, &mut first) {
-        Numbers::Count(n) => judge_numbers(first[0], n),
         Numbers::Illegal => Zoomed::Refused(Refusal::BadText),
     }
 }

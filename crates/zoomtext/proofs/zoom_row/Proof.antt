@@ -8,8 +8,8 @@ use lib.ListN.{length}
 use Rattle.bspline.specs.Outcomes.{rowZoom}
 use Rattle.answers.specs.Answers.{written}
 use Rattle.answers.specs.declared.Written.{Written}
-use Rattle.zoomtext.specs.Answers.{listed}
-use Rattle.zoomtext.specs.Outcomes.{Kept}
+use Rattle.zoomtext.specs.Kept.{listed}
+use Rattle.zoomtext.specs.Kept.{Kept}
 use Rattle.zoomtext.proofs.zoom_row.Statement.{statement}
 use Rattle.zoomtext.proofs.zoom_row.Tie as tie
 

@@ -7,8 +7,9 @@ use lib.IntN.{ℤ}
 use Rattle.readtext.specs.Numbers.{numbers}
 use Rattle.readtext.specs.Readings.{Reads, Holds}
 use Rattle.readtext.specs.declared.text.Numbers.{Numbers}
-use Rattle.zoomtext.specs.Outcomes.{kept, zoomNumbers, zoomText}
-use Rattle.zoomtext.proofs.TextOutcome.{too-long, of-numbers}
+use Rattle.judgetext.specs.Outcomes.{zoomNumbers, zoomText}
+use Rattle.zoomtext.specs.Kept.{kept}
+use Rattle.judgetext.proofs.TextOutcome.{too-long, of-numbers}
 use Rattle.zoomtext.proofs.zoom_text.Statement.{statement}
 use Rattle.zoomtext.proofs.zoom_text.Tie as tie
 

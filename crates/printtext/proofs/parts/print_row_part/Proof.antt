@@ -4,7 +4,7 @@ use mathlib.Core.Bool.{true, false}
 use mathlib.Core.Path.{_≡_, sym, _∙_}
 use native.Mathlib.Omega.{arith}
 use borrow.Author.Tests.{lt-leb, le-leb, not-true, not-false}
-use Rattle.zoomtext.specs.Answers.{rowSizes}
+use Rattle.judgetext.specs.Answers.{rowSizes}
 use Rattle.printtext.proofs.Printing.{not-held, put-held}
 use Rattle.printtext.proofs.parts.print_row_part.Statement.{statement}
 use Rattle.printtext.proofs.parts.print_row_part.Tie as tie

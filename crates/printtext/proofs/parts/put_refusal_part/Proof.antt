@@ -9,7 +9,7 @@ use lib.ListN.{length}
 use Rattle.decimal.specs.Decimal.{field}
 use Rattle.decimal.proofs.Buffers.{put-none}
 use Rattle.decimal.proofs.Fields.{field-short}
-use Rattle.zoomtext.specs.Outcomes.{refused}
+use Rattle.judgetext.specs.Outcomes.{refused}
 use Rattle.printtext.specs.Output.{refusalLine, part}
 use Rattle.printtext.proofs.parts.put_refusal_part.Statement.{statement}
 use Rattle.printtext.proofs.parts.put_refusal_part.Tie as tie

@@ -8,7 +8,7 @@ use native.Mathlib.Omega.{arith}
 use lib.IntN.{ℤ}
 use lib.ListN.{length, take}
 use lib.Seq.{length-take-le}
-use Rattle.zoomtext.proofs.RowSizes.{Sized, sized}
+use Rattle.judgetext.proofs.RowSizes.{Sized, sized}
 use Rattle.printtext.specs.Output.{part}
 use Rattle.printtext.proofs.PartLines.{Span, part-lines, part-fits}
 use Rattle.printtext.proofs.parts.put_row_part.Statement.{statement}

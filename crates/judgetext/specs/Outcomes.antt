@@ -7,12 +7,11 @@ use lib.Dec.{ltb}
 use lib.IntN.{ℤ, pos, negsuc}
 use lib.ListN.{length}
 use Rattle.bspline.specs.Limits.{longestRow}
-use Rattle.bspline.specs.Outcomes.{overwrite}
 use Rattle.bspline.specs.Refusals.{refusal-1, refusal-2, refusal-7, judged}
 use Rattle.bspline.specs.Transforms.{rowCoefficients}
 use Rattle.bspline.specs.Values.{zoomValues}
 use Rattle.readtext.specs.Numbers.{numbers}
-use Rattle.zoomtext.specs.Limits.{longestText}
+use Rattle.judgetext.specs.Limits.{longestText}
 
 -- a row of n samples at the factor m and its values, or a refusal by its number
 pub data Outcome : Type 0 where
@@ -50,16 +49,3 @@ pub data Reply : Type 0 where
 abbrev pub reply : Outcome → Reply
 reply (row n m vs) = sized n m (length vs)
 reply (refused k) = declined k
-
--- with the values in a buffer: what is answered, and the buffer afterwards
-pub record Kept : Type 0 where
-  pub answer : Reply
-  pub values : List ℤ
-
--- a refused text changes nothing; a buffer that is shorter than the values is refused as 9, after all others
-unfoldable pub kept : Outcome → List ℤ → Kept
-kept (refused k) buffer = record { answer = declined k; values = buffer }
-kept (row n m vs) buffer =
-    cond (ltb (length buffer) (length vs))
-    (record { answer = declined 9; values = buffer })
-    (record { answer = sized n m (length vs); values = overwrite vs buffer })

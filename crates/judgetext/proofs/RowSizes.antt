@@ -10,9 +10,9 @@ use Rattle.bspline.specs.Limits.{longestRow, greatestFactor}
 use Rattle.bspline.specs.Refusals.{outside}
 use Rattle.bspline.specs.Values.{zoomCount}
 use Rattle.bspline.proofs.Refusals.{one-to}
-use Rattle.zoomtext.specs.Answers.{rowSizes}
-use Rattle.zoomtext.specs.Limits.{mostValues}
-use Rattle.zoomtext.specs.declared.Sizes.{Sizes}
+use Rattle.judgetext.specs.Answers.{rowSizes}
+use Rattle.judgetext.specs.Limits.{mostValues}
+use Rattle.judgetext.specs.declared.Sizes.{Sizes}
 
 -- a row has no more values than the longest one
 pub count-inside : (m n : ℕ) → n ≤ longestRow → zoomCount m n ≤ zoomCount m longestRow

@@ -1,4 +1,4 @@
--- `zoomtext::judge_numbers` meets its contract: each refusal is the first test that holds, and where none does the sizes are those of the row.
+-- `judgetext::judge_numbers` meets its contract: each refusal is the first test that holds, and where none does the sizes are those of the row.
 -- Assumes nothing.
 use mathlib.Core.Bool.{false}
 use mathlib.Core.Path.{_≡_, sym, ap, _∙_}
@@ -12,9 +12,9 @@ use Rattle.bspline.specs.Limits.{longestRow, greatestFactor}
 use Rattle.bspline.specs.Refusals.{outside}
 use Rattle.bspline.proofs.Zoom.{zoom-few}
 use Rattle.answers.proofs.WithinLimits.{factor}
-use Rattle.zoomtext.specs.Outcomes.{factorOf}
-use Rattle.zoomtext.proofs.judge_numbers.Statement.{statement}
-use Rattle.zoomtext.proofs.judge_numbers.Tie as tie
+use Rattle.judgetext.specs.Outcomes.{factorOf}
+use Rattle.judgetext.proofs.judge_numbers.Statement.{statement}
+use Rattle.judgetext.proofs.judge_numbers.Tie as tie
 
 returns : tie.Need-returns
 returns c = simp (eq-eqb _ _ (c .if1 .taken))

@@ -1,4 +1,4 @@
--- `zoomtext::row_sizes` meets its contract: each return is the first test that fails, or the last one, and within the limits the count of
+-- `judgetext::row_sizes` meets its contract: each return is the first test that fails, or the last one, and within the limits the count of
 -- values fits. Assumes nothing.
 use mathlib.Core.Bool.{false}
 use mathlib.Core.Path.{_≡_, sym, _∙_}
@@ -8,9 +8,9 @@ use Rattle.bspline.specs.Limits.{longestRow, greatestFactor}
 use Rattle.bspline.specs.Refusals.{outside}
 use Rattle.bspline.proofs.Refusals.{one-to}
 use Rattle.bspline.proofs.Zoom.{zoom-few}
-use Rattle.zoomtext.specs.declared.Sizes.{Sizes}
-use Rattle.zoomtext.proofs.row_sizes.Statement.{statement}
-use Rattle.zoomtext.proofs.row_sizes.Tie as tie
+use Rattle.judgetext.specs.declared.Sizes.{Sizes}
+use Rattle.judgetext.proofs.row_sizes.Statement.{statement}
+use Rattle.judgetext.proofs.row_sizes.Tie as tie
 
 returns : tie.Need-returns
 returns c = simp (sym (c .before .outside .ensures) ∙ c .if1 .taken)

@@ -9,8 +9,8 @@ use lib.Dec.{ltb}
 use lib.ListN.{length, take}
 use lib.Seq.{take-all, length-take-le}
 use Rattle.readtext.specs.Numbers.{numbers}
-use Rattle.zoomtext.specs.Limits.{longestText}
-use Rattle.zoomtext.specs.Outcomes.{refused, zoomNumbers, zoomText}
+use Rattle.judgetext.specs.Limits.{longestText}
+use Rattle.judgetext.specs.Outcomes.{refused, zoomNumbers, zoomText}
 
 pub too-long : (t : List ℕ) → longestText < length t → zoomText t ≡ refused 10
 unfolding zoomText

@@ -1,4 +1,4 @@
--- `zoomtext::factor_of` meets its contract: a number that is not negative is cast without loss. Assumes nothing.
+-- `judgetext::factor_of` meets its contract: a number that is not negative is cast without loss. Assumes nothing.
 use mathlib.Core.Bool.{true, false}
 use mathlib.Core.Path.{_≡_, refl}
 use Prim.Native.Nat.{ℕ}
@@ -9,9 +9,9 @@ use lib.IntN.{ℤ, pos, negsuc, natAbs}
 use lib.Signed.{ltZ, nonNeg}
 use mir.Facts.{toZ-ofZ}
 use Rattle.integers.proofs.Absolute.{abs-fits}
-use Rattle.zoomtext.specs.Outcomes.{factorOf}
-use Rattle.zoomtext.proofs.factor_of.Statement.{statement}
-use Rattle.zoomtext.proofs.factor_of.Tie as tie
+use Rattle.judgetext.specs.Outcomes.{factorOf}
+use Rattle.judgetext.proofs.factor_of.Statement.{statement}
+use Rattle.judgetext.proofs.factor_of.Tie as tie
 
 negative : (f : ℤ) → ltZ f (pos 0) ≡ true → 0 ≡ factorOf f
 negative (pos n) e = omega (arith, ltb-true n 0 e)

@@ -2,7 +2,7 @@
 ghost use mathlib.Core.Path.{_≡_};
 ghost use Prim.Native.Nat.{_+_};
 ghost use lib.ListN.{length};
-ghost use Rattle.zoomtext.specs.Limits.{longestText, mostValues};
+ghost use Rattle.judgetext.specs.Limits.{longestText, mostValues};
 use crate::LONGEST_TEXT;
 use answers::limits::MOST_VALUES;
 

@@ -1,4 +1,4 @@
--- `zoomtext::judge_text` meets its contract: a text that is not too long has the numbers that were read of it, or none, and what is answered of them
+-- `judgetext::judge_text` meets its contract: a text that is not too long has the numbers that were read of it, or none, and what is answered of them
 -- is decided by their count and the first. Assumes nothing.
 use mathlib.Core.List.{List}
 use mathlib.Core.Path.{_≡_, sym, ap, _∙_, subst}
@@ -13,10 +13,10 @@ use mir.Syntax.{w16}
 use mir.Val.{SFits}
 use Rattle.readtext.specs.Readings.{Reads, Holds}
 use Rattle.readtext.specs.declared.text.Numbers.{Numbers}
-use Rattle.zoomtext.proofs.Judging.{numbers-judged}
-use Rattle.zoomtext.proofs.TextOutcome.{too-long, of-numbers}
-use Rattle.zoomtext.proofs.judge_text.Statement.{statement}
-use Rattle.zoomtext.proofs.judge_text.Tie as tie
+use Rattle.judgetext.proofs.Judging.{numbers-judged}
+use Rattle.judgetext.proofs.TextOutcome.{too-long, of-numbers}
+use Rattle.judgetext.proofs.judge_text.Statement.{statement}
+use Rattle.judgetext.proofs.judge_text.Tie as tie
 
 returns : tie.Need-returns
 returns c = rw (too-long (c .before .before .args .text .now) (c .if1 .taken))

@@ -14,8 +14,8 @@ use Rattle.bspline.specs.Values.{zoomCount, zoomValues}
 use Rattle.bspline.proofs.Refusals.{judged-map}
 use Rattle.bspline.proofs.Transforms.{row-length}
 use Rattle.bspline.proofs.Zoom.{zoom-length}
-use Rattle.zoomtext.specs.Answers.{judgedNumbers}
-use Rattle.zoomtext.specs.Outcomes.{sized, declined, row, refused, reply, factorOf, zoomSamples, zoomNumbers}
+use Rattle.judgetext.specs.Answers.{judgedNumbers}
+use Rattle.judgetext.specs.Outcomes.{sized, declined, row, refused, reply, factorOf, zoomSamples, zoomNumbers}
 
 -- samples at a factor
 samples-judged : (m : ℕ) (s : List ℤ) →
