@@ -1,4 +1,4 @@
--- What the library computes, in the order of docs/SPECIFICATION.md. The contracts of the crate `spline` cite these definitions.
+-- What the library computes, in the order of docs/SPECIFICATION.md. The contracts of the operations cite these definitions.
 pub mod Lists
 pub mod PictureLayout
 pub mod Bounds

@@ -22,7 +22,7 @@ pub struct Sizes {
     pub values: usize,
 }
 
-// What a text gives: values, or the refusal.
+// What is answered of a text: the sizes of its row, or the refusal.
 pub enum Zoomed {
     Row(Sizes),
     Refused(Refusal),

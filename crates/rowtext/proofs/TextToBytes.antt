@@ -12,9 +12,10 @@ use lib.Seq.{take-at}
 use Rattle.bspline.specs.Outcomes.{overwrite}
 use Rattle.bspline.specs.Values.{zoomCount}
 use Rattle.answers.specs.Answers.{number}
+use Rattle.answers.specs.declared.Refusal.{Refusal}
 use Rattle.judgetext.specs.Answers.{found, replied}
 use Rattle.judgetext.specs.Limits.{mostValues}
-use Rattle.judgetext.specs.Outcomes.{Outcome, row, refused, sized, declined, zoomText}
+use Rattle.judgetext.specs.Outcomes.{Outcome, row, refused, sized, declined, reply, zoomText}
 use Rattle.zoomtext.specs.Kept.{Kept, kept}
 use Rattle.judgetext.specs.declared.Sizes.{Sizes}
 use Rattle.judgetext.specs.declared.Zoomed.{Zoomed}
@@ -93,9 +94,20 @@ parts-are z values buffers h room (suc b) =
     simp (h, le-leb block (length (buffers b)) (room b))
     (ap₂ (λ (x y : List ℕ). x ++ y) (parts-are z values buffers h room b) (take-at bytes (drop (0 + length bytes) (buffers b)) (length bytes) refl))
 
+-- a text with its values
 pub text-to-bytes : (t : List ℕ) (before after : List ℤ) (z : Zoomed) (buffers : ℕ → List ℕ) →
     mostValues ≤ length before → ((b : ℕ) → block ≤ length (buffers b)) →
     record { answer = replied z; values = after } ≡ kept (zoomText t) before → printedParts z after buffers mostParts ≡ output t
 text-to-bytes t before after z buffers room blocks e =
     let w = whole z (zoomText t) before after (text-fitting t) room e in
     parts-are z after buffers (w .all) blocks mostParts ∙ ap (parts mostParts) (w .is) ∙ parts-output t
+
+-- a text that `judge_text` refuses, whose line needs no values
+pub refused-to-bytes : (t : List ℕ) (r : Refusal) (values : List ℤ) (buffers : ℕ → List ℕ) → ((b : ℕ) → block ≤ length (buffers b)) →
+    replied (Refused r) ≡ reply (zoomText t) → printedParts (Refused r) values buffers mostParts ≡ output t
+refused-to-bytes t r values buffers blocks e =
+    parts-are (Refused r) values buffers refl blocks mostParts ∙ ap (parts mostParts) (declines (zoomText t) e) ∙ parts-output t
+  where
+    declines : (o : Outcome) → declined (number r) ≡ reply o → refused (number r) ≡ o
+    declines (refused k) e = let same : number r ≡ k = cc in ap refused same
+    declines (row n m vs) e = absurd (no-sizes n m (length vs) (number r) (sym e))

@@ -1,4 +1,4 @@
--- `filter::passes::anticausal_pass` meets its contract. The invariant: b is that of place i + 24 of the window (`AnticausalAt`), and the
+-- `filter::passes::anticausal_pass` meets its contract. The invariant: b is that of place i + the margin of the window (`AnticausalAt`), and the
 -- coefficients from place i of the line on are stored (`Stored`). The measure is i. Assumes nothing.
 use mathlib.Core.Path.{_≡_, sym, _∙_}
 use Prim.Native.Nat.{ℕ, suc, _+_, _-_, _*_, _≤_, _<_}
