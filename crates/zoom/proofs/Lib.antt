@@ -1,3 +1,3 @@
 -- Laws that belong to no one function.
-pub mod Cubics
+pub mod CubicSum
 pub mod RowParts

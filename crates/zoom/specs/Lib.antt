@@ -1,3 +1,3 @@
 -- What the contracts of row zoom cite beside the definitions of `bspline`.
-pub mod Cubics
+pub mod Weighted
 pub mod Listing

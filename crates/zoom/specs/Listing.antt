@@ -1,21 +1,10 @@
 -- What the code that lists values asks. Assumes nothing.
 use mathlib.Core.List.{List}
-use Prim.Native.Nat.{ℕ, _*_, _^_, _≤_, _<_}
-use lib.IntN.{ℤ, pos, natAbs}
+use Prim.Native.Nat.{ℕ, _≤_, _<_}
+use lib.IntN.{ℤ}
 use lib.ListN.{length}
-use lib.Signed.{_<ℤ_}
 use Rattle.bspline.specs.Limits.{longestRow}
 use Rattle.answers.specs.Limits.{Factor}
-use Rattle.zoom.specs.declared.cubic.Cubic.{Cubic}
-use Rattle.zoom.specs.Cubics.{cubicSum, CubicSmall}
-
--- a small cubic, a divisor, and room for at most 16 values, at whose numerators the cubic is at most 2^27 divisors
-pub record Fillable (f : Cubic) (d : ℤ) (values : List ℤ) : Type 0 where
-  pub small : CubicSmall f
-  pub above : pos 0 <ℤ d
-  pub divisor : natAbs d ≤ 2 ^ 20
-  pub room : length values ≤ 16
-  pub size : (j : ℕ) → j < length values → natAbs (cubicSum f (pos j)) ≤ 2 ^ 27 * natAbs d
 
 -- a place of a row that is not refused, a factor, and room for at most as many values
 pub record Between (k m : ℕ) (c values : List ℤ) : Type 0 where

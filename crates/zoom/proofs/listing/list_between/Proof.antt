@@ -11,8 +11,8 @@ use Rattle.integers.specs.Rounding.{round}
 use Rattle.integers.proofs.Parts.{lt-of}
 use Rattle.bspline.proofs.Lists.{tabulate-same}
 use Rattle.bspline.proofs.Weights.{cubed, weighted-within, value-between}
-use Rattle.zoom.specs.Cubics.{cubicSum}
-use Rattle.zoom.specs.Listing.{Fillable}
+use Rattle.cubic.specs.Cubics.{cubicSum}
+use Rattle.cubic.specs.Quotients.{Fillable}
 use Rattle.zoom.proofs.listing.list_between.Statement.{statement}
 use Rattle.zoom.proofs.listing.list_between.Tie as tie
 

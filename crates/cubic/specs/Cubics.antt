@@ -1,22 +1,16 @@
--- The cubic of the numerator that a weighted sum is between two places, and its differences. Assumes nothing.
-use mathlib.Core.List.{List}
+-- Cubics of the numerator, and their differences. Assumes nothing.
 use mathlib.Core.Path.{_≡_}
-use Prim.Native.Nat.{ℕ, _*_, _^_}
+use Prim.Native.Nat.{_*_, _^_}
 use lib.IntN.{ℤ, pos, _+ℤ_, _-ℤ_, _*ℤ_}
 use Rattle.integers.specs.Bound.{Within}
-use Rattle.bspline.specs.Values.{weights, dot}
-use Rattle.zoom.specs.declared.cubic.Cubic.{Cubic}
-use Rattle.zoom.specs.declared.cubic.Differences.{Differences}
+use Rattle.cubic.specs.declared.Cubic.{Cubic}
+use Rattle.cubic.specs.declared.Differences.{Differences}
 
 -- the cubic at a numerator
 abbrev pub cubicSum : Cubic → ℤ → ℤ
 cubicSum f j = ((f .three *ℤ j +ℤ f .two) *ℤ j +ℤ f .one) *ℤ j +ℤ f .zero
 
--- at every numerator it is the weighted sum of the four numbers
-pub record CubicOf (m : ℕ) (c : List ℤ) (f : Cubic) : Type 0 where
-  pub sums : (j : ℕ) → cubicSum f (pos j) ≡ dot (weights m j) c
-
--- its coefficients for 32-bit numbers: at most the sizes of the factors times 2^31, at factor 16
+-- its coefficients where it is the weighted sum of 32-bit numbers: at most the sizes of the factors times 2^31, at factor 16
 pub record CubicSmall (f : Cubic) : Type 0 where
   pub zero : Within (24576 * 2 ^ 31) (f .zero)
   pub one : Within (1536 * 2 ^ 31) (f .one)

@@ -1,5 +1,4 @@
--- The weighted sum between two places of a row, as a cubic of the numerator, and the differences of the cubic: at the numerator 0, from a numerator
--- to the next, and how great they are. Assumes nothing.
+-- The differences of a cubic: at the numerator 0, from a numerator to the next, and how great they are. Assumes nothing.
 use mathlib.Core.List.{[], _∷_}
 use mathlib.Core.Path.{_≡_, ap₂, _∙_}
 use Prim.Native.Nat.{ℕ, _+_, _^_, _≤_}
@@ -8,26 +7,10 @@ use lib.IntN.{ℤ, pos, _+ℤ_, _-ℤ_, _*ℤ_}
 use Rattle.integers.specs.Bound.{Within}
 use Rattle.integers.proofs.Absolute.{within-weaken, within-add, within-sub, within-mul}
 use Rattle.integers.proofs.Ring.{polys, ring}
-use Rattle.bspline.specs.Values.{weights, dot}
-use Rattle.zoom.specs.declared.cubic.Cubic.{Cubic}
-use Rattle.zoom.specs.declared.cubic.Differences.{Differences}
-use Rattle.zoom.specs.Cubics.{CubicSmall, DifferencesAt, DifferencesSmall, Stepped, cubicSum, growth}
-use Rattle.bspline.proofs.Weights.{weights-of, weights-products}
+use Rattle.cubic.specs.declared.Cubic.{Cubic}
+use Rattle.cubic.specs.declared.Differences.{Differences}
+use Rattle.cubic.specs.Cubics.{CubicSmall, DifferencesAt, DifferencesSmall, Stepped, cubicSum, growth}
 
--- the cubic at j, whose coefficients are made of the four numbers and m
-abbrev cubic : (m j b h a e : ℤ) → ℤ
-cubic m j b h a e =
-    (((e -ℤ b +ℤ pos 3 *ℤ (h -ℤ a)) *ℤ j +ℤ pos 3 *ℤ m *ℤ (b -ℤ pos 2 *ℤ h +ℤ a)) *ℤ j +ℤ pos 3 *ℤ m *ℤ m *ℤ (a -ℤ b)) *ℤ j +ℤ
-    m *ℤ m *ℤ m *ℤ (b +ℤ pos 4 *ℤ h +ℤ a)
-
-collected : (m j b h a e : ℤ) → cubic m j b h a e ≡ dot (weights-of m j) (b ∷ h ∷ a ∷ e ∷ [])
-collected m j b h a e = ring (m ∷ j ∷ b ∷ h ∷ a ∷ e ∷ []) (simp polys tt) tt
-
--- it is the weighted sum of the four
-pub cubic-sum : (m j : ℕ) (b h a e : ℤ) → cubic (pos m) (pos j) b h a e ≡ dot (weights m j) (b ∷ h ∷ a ∷ e ∷ [])
-cubic-sum m j b h a e = rw (weights-products m j) (collected (pos m) (pos j) b h a e)
-
--- ---- differences
 -- at the numerator 0
 pub differences-start : (f : Cubic) → DifferencesAt f (pos 0) (record {
   value = f .zero;

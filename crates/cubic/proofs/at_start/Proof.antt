@@ -1,11 +1,11 @@
--- `zoom::cubic::at_start` meets its contract: every product and sum on the way fits 64 bits. Assumes nothing.
+-- `cubic::at_start` meets its contract: every product and sum on the way fits 64 bits. Assumes nothing.
 use mathlib.Core.Path.{_∙_}
 use lib.Dec.{lit<}
 use mir.Syntax.{w64}
 use Rattle.integers.proofs.Words.{Word, given, literal, plus, times}
-use Rattle.zoom.proofs.Cubics.{differences-start}
-use Rattle.zoom.proofs.cubic.at_start.Statement.{statement}
-use Rattle.zoom.proofs.cubic.at_start.Tie as tie
+use Rattle.cubic.proofs.Cubics.{differences-start}
+use Rattle.cubic.proofs.at_start.Statement.{statement}
+use Rattle.cubic.proofs.at_start.Tie as tie
 
 -- the products and sums
 module _ (s : tie.Start) where

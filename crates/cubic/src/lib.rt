@@ -1,14 +1,12 @@
-// Cubics of the numerator, and their differences.
-ghost use Prim.Native.Nat.{_^_, _≤_};
+// Cubics of the numerator between two places: their differences, by which a cubic goes from one numerator to the next with three sums and no
+// product, and their rounded quotients.
+pub mod quotients;
+
 ghost use lib.IntN.{pos};
-ghost use Rattle.bspline.specs.Bounds.{AllWithin};
-ghost use Rattle.bspline.specs.Limits.{greatestFactor};
-ghost use Rattle.sums.specs.Sums.{listed};
-ghost use Rattle.zoom.specs.Cubics.{CubicOf, CubicSmall, DifferencesAt, DifferencesSmall, Stepped};
-use sums::rows::Four;
+ghost use Rattle.cubic.specs.Cubics.{CubicSmall, DifferencesAt, DifferencesSmall, Stepped};
 
 // A cubic of the numerator, by its coefficients from the power 0 up.
-pub(crate) struct Cubic {
+pub struct Cubic {
     pub zero: i64,
     pub one: i64,
     pub two: i64,
@@ -22,20 +20,6 @@ pub(crate) struct Differences {
     pub first: i64,
     pub second: i64,
     pub third: i64,
-}
-
-// The weighted sum of four coefficients as a cubic of the numerator over m.
-pub(crate) fn cubic_of(c: Four, m: usize) -> Cubic
-    requires { ⌜ AllWithin (2 ^ 31) (listed c) × (m ≤ greatestFactor) ⌝ }
-    ensures { λ r. ⌜ CubicOf m (listed c) r × CubicSmall r ⌝ }
-{
-    let m = m as i64;
-    Cubic {
-        zero: m * m * m * (c.before + 4 * c.here + c.after),
-        one: 3 * m * m * (c.after - c.before),
-        two: 3 * m * (c.before - 2 * c.here + c.after),
-        three: c.beyond - c.before + 3 * (c.here - c.after),
-    }
 }
 
 // The differences of a cubic at the numerator 0.

@@ -1,4 +1,4 @@
--- `zoom::cubic::cubic_of` meets its contract: every product and sum on the way fits 64 bits, and the cubic of the four is the weighted sum.
+-- `zoom::weighted::cubic_of` meets its contract: every product and sum on the way fits 64 bits, and the cubic of the four is the weighted sum.
 -- Assumes nothing.
 use borrow.Author.Needs.{needs}
 use mathlib.Core.Path.{_≡_, ap, ap₂, _∙_}
@@ -8,12 +8,12 @@ use lib.IntN.{pos, _+ℤ_, _*ℤ_}
 use Rattle.bspline.specs.Lists.{at}
 use Rattle.bspline.specs.Values.{weights, dot}
 use Rattle.sums.specs.Sums.{listed}
-use Rattle.zoom.specs.Cubics.{cubicSum}
+use Rattle.cubic.specs.Cubics.{cubicSum}
 use mir.Syntax.{w64}
 use Rattle.integers.proofs.Words.{Word, given, counted, literal, plus, minus, times, operand-small}
-use Rattle.zoom.proofs.Cubics.{cubic-sum}
-use Rattle.zoom.proofs.cubic.cubic_of.Statement.{statement}
-use Rattle.zoom.proofs.cubic.cubic_of.Tie as tie
+use Rattle.zoom.proofs.CubicSum.{cubic-sum}
+use Rattle.zoom.proofs.weighted.cubic_of.Statement.{statement}
+use Rattle.zoom.proofs.weighted.cubic_of.Tie as tie
 
 -- the products and sums
 module _ (s : tie.Start) where

@@ -1,5 +1,6 @@
--- `zoom::listing::list_quotients` meets its contract. The invariant, of every cubic whose differences at 0 were there at the start: the first j numbers are its
--- rounded quotients at the numerators below j (`Filled`), and its differences at j are there now. The measure is what is left. Assumes nothing.
+-- `cubic::quotients::list_quotients` meets its contract. The invariant, of every cubic whose differences at 0 were there at the start: the first j
+-- numbers are its rounded quotients at the numerators below j (`Filled`), and its differences at j are there now. The measure is what is left.
+-- Assumes nothing.
 use mathlib.Core.Path.{_≡_, sym, _∙_, ap}
 use Prim.Native.Nat.{ℕ, _-_, _<_}
 use native.Mathlib.Omega.{arith}
@@ -14,12 +15,12 @@ use Rattle.integers.specs.Rounding.{round}
 use Rattle.integers.proofs.Absolute.{within-fits}
 use Rattle.bspline.specs.Lists.{tabulate}
 use Rattle.bspline.proofs.Lists.{tabulate-length, tabulate-from-zero}
-use Rattle.zoom.specs.declared.cubic.Cubic.{Cubic}
-use Rattle.zoom.specs.Cubics.{DifferencesAt, DifferencesSmall, cubicSum}
-use Rattle.zoom.proofs.Cubics.{differences-next, differences-small}
+use Rattle.cubic.specs.declared.Cubic.{Cubic}
+use Rattle.cubic.specs.Cubics.{DifferencesAt, DifferencesSmall, cubicSum}
+use Rattle.cubic.proofs.Cubics.{differences-next, differences-small}
 use Rattle.bspline.proofs.FilledLists.{Filled, filled-none, filled-more, filled-all}
-use Rattle.zoom.proofs.listing.list_quotients.Statement.{statement}
-use Rattle.zoom.proofs.listing.list_quotients.Tie as tie
+use Rattle.cubic.proofs.quotients.list_quotients.Statement.{statement}
+use Rattle.cubic.proofs.quotients.list_quotients.Tie as tie
 
 -- the rounded quotient at a numerator
 abbrev quotient : Cubic → ℤ → ℕ → ℤ

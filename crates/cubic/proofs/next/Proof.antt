@@ -1,9 +1,9 @@
--- `zoom::cubic::next` meets its contract: the three sums fit 64 bits. Assumes nothing.
+-- `cubic::next` meets its contract: the three sums fit 64 bits. Assumes nothing.
 use lib.Dec.{lit<}
 use mir.Syntax.{w64}
 use Rattle.integers.proofs.Words.{Word, given, plus}
-use Rattle.zoom.proofs.cubic.next.Statement.{statement}
-use Rattle.zoom.proofs.cubic.next.Tie as tie
+use Rattle.cubic.proofs.next.Statement.{statement}
+use Rattle.cubic.proofs.next.Tie as tie
 
 -- the sums
 module _ (s : tie.Start) where

@@ -1,5 +1,5 @@
--- `zoom::listing::list_cubic` meets its contract. An arm has its factor n and the divisor 96n³, and is proved by `asks` and `gives`, which put n for
--- the factor; the last arm has the factor 16, the only one that is left. Assumes nothing.
+-- `cubic::quotients::list_cubic` meets its contract. An arm has its factor n and the divisor 96n³, and is proved by `asks` and `gives`, which put
+-- n for the factor; the last arm has the factor 16, the only one that is left. Assumes nothing.
 use mathlib.Core.List.{List}
 use mathlib.Core.Path.{_≡_, sym, ap, _∙_}
 use Prim.Native.Nat.{ℕ, _+_, _*_, _^_, _≤_}
@@ -9,10 +9,10 @@ use lib.IntN.{ℤ, pos}
 use lib.ListN.{length}
 use Rattle.integers.specs.Rounding.{round}
 use Rattle.bspline.specs.Lists.{tabulate}
-use Rattle.zoom.specs.Cubics.{cubicSum}
-use Rattle.zoom.specs.Listing.{Fillable}
-use Rattle.zoom.proofs.listing.list_cubic.Statement.{statement}
-use Rattle.zoom.proofs.listing.list_cubic.Tie as tie
+use Rattle.cubic.specs.Cubics.{cubicSum}
+use Rattle.cubic.specs.Quotients.{Fillable}
+use Rattle.cubic.proofs.quotients.list_cubic.Statement.{statement}
+use Rattle.cubic.proofs.quotients.list_cubic.Tie as tie
 
 -- an arm whose factor is n
 module _ (n : ℕ) (s : tie.Start) (e : s .args .m ≡ n) where
