@@ -51,9 +51,9 @@ struct Case {
     c: Operation,
 }
 
-const ROW: usize = 4096;
-const SIDE: usize = 512;
-const FACTOR: usize = 16;
+const ROW: usize = rust::LONGEST_ROW;
+const SIDE: usize = rust::LONGEST_SIDE;
+const FACTOR: usize = rust::LARGEST_FACTOR;
 
 const CASES: [Case; 3] = [
     Case {
@@ -63,7 +63,7 @@ const CASES: [Case; 3] = [
         samples: ROW,
         coefficients: 0,
         numbers: ROW,
-        work: ROW + 48,
+        work: ROW + 2 * rust::MARGIN,
         line: 0,
         unit: 4096.0,
         distance: 2.0,
@@ -84,7 +84,7 @@ const CASES: [Case; 3] = [
         samples: SIDE * SIDE,
         coefficients: 0,
         numbers: SIDE * SIDE,
-        work: SIDE + 48,
+        work: SIDE + 2 * rust::MARGIN,
         line: SIDE,
         unit: 4096.0,
         distance: 8.0,
@@ -144,7 +144,7 @@ impl Input {
             return Ok(());
         }
         classic::row_transform(&self.samples, &mut self.real_coefficients);
-        let mut work = vec![0; self.samples.len() + 48];
+        let mut work = vec![0; self.samples.len() + 2 * rust::MARGIN];
         match library::row_transform(&self.samples, &mut self.coefficients, &mut work) {
             answer if answer < 0 => Err(format!("the row transform refused, {answer}")),
             _ => Ok(()),

@@ -24,7 +24,7 @@ struct Case {
 const ROW: usize = 4096;
 const FACTOR: usize = 16;
 
-const CASES: [Case; 2] = [
+const CASES: [Case; 3] = [
     Case {
         title: "4096 samples at factor 16",
         runs: 200,
@@ -35,6 +35,12 @@ const CASES: [Case; 2] = [
         title: "empty text, which is refused",
         runs: 200,
         text: |_| String::new(),
+        begins: "refused 10\n",
+    },
+    Case {
+        title: "4096 samples without the last line feed, refused",
+        runs: 200,
+        text: |run| largest_text(run).trim_end().to_string(),
         begins: "refused 10\n",
     },
 ];

@@ -1,10 +1,10 @@
 //! The operations in safe Rust, for comparison: the same passes over the same buffers with the same results, refusals included.
 
 const POLE: i64 = 575_416_509;
-const MARGIN: usize = 24;
-const LONGEST_ROW: usize = 4096;
-const LONGEST_SIDE: usize = 512;
-const LARGEST_FACTOR: usize = 16;
+pub const MARGIN: usize = 24;
+pub const LONGEST_ROW: usize = 4096;
+pub const LONGEST_SIDE: usize = 512;
+pub const LARGEST_FACTOR: usize = 16;
 
 /// a / 2^31 to the nearest whole number, a tie going up.
 fn rounded(a: i64) -> i64 {

@@ -8,6 +8,7 @@ MARGIN = 24
 LONGEST_ROW = 4096
 LONGEST_SIDE = 512
 FACTORS = range(1, 17)
+MOST_VALUES = (LONGEST_ROW - 1) * FACTORS[-1] + 1
 
 
 def work_words(line):
