@@ -7,6 +7,7 @@ ghost use Rattle.judgetext.specs.Outcomes.{factorOf, reply, zoomText};
 use answers::Refusal;
 use answers::checks::bad_factor;
 use answers::checks::outside;
+use answers::counts::zoom_count;
 use answers::limits::GREATEST_FACTOR;
 use answers::limits::LONGEST_ROW;
 use readtext::text::Numbers;
@@ -40,7 +41,7 @@ pub fn row_sizes(s: Sizes) -> bool
     if outside(GREATEST_FACTOR, m) {
         return false;
     }
-    s.values == (n - 1) * m + 1
+    s.values == zoom_count(m, n)
 }
 
 // The factor that a number means.
@@ -68,7 +69,7 @@ fn judge_numbers(first: i16, n: usize) -> Zoomed
     if bad_factor(factor) {
         return Zoomed::Refused(Refusal::BadFactor);
     }
-    let values = (samples - 1) * factor + 1;
+    let values = zoom_count(factor, samples);
     Zoomed::Row(Sizes {
         samples,
         factor,

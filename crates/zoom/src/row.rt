@@ -6,6 +6,7 @@ use crate::listing::list_row;
 use answers::Refusal;
 use answers::Written;
 use answers::checks::bad_factor;
+use answers::counts::zoom_count;
 use answers::limits::LONGEST_ROW;
 
 // Row zoom: the values at 0, 1/m, 2/m and so on to n - 1, from the buffer's start.
@@ -22,7 +23,7 @@ pub fn zoom(coefficients: &[i32], m: usize, values: &mut [i32]) -> Written
     if bad_factor(m) {
         return Written::Refused(Refusal::BadFactor);
     }
-    let count = (n - 1) * m + 1;
+    let count = zoom_count(m, n);
     if values.len() < count {
         return Written::Refused(Refusal::ShortValues);
     }

@@ -2,7 +2,7 @@
 -- Assumes nothing.
 use mathlib.Core.Bool.{false}
 use mathlib.Core.Path.{_≡_, sym, ap, _∙_}
-use Prim.Native.Nat.{ℕ, _-_, _*_, _≤_}
+use Prim.Native.Nat.{ℕ, _-_}
 use native.Mathlib.Omega.{arith}
 use borrow.Author.Needs.{needs}
 use borrow.Author.Tests.{lt-ltb, le-ltb, eq-eqb, ne-eqb}
@@ -10,7 +10,6 @@ use lib.Dec.{eqb, ltb}
 use mir.Facts.{toZ-ofZ}
 use Rattle.bspline.specs.Limits.{longestRow, greatestFactor}
 use Rattle.bspline.specs.Refusals.{outside}
-use Rattle.bspline.proofs.Zoom.{zoom-few}
 use Rattle.answers.proofs.WithinLimits.{factor}
 use Rattle.judgetext.specs.Outcomes.{factorOf}
 use Rattle.judgetext.proofs.judge_numbers.Statement.{statement}
@@ -54,17 +53,14 @@ returns-4 c = let b = c .before in simp (none-missing b, some b, short b, means 
 good-factor : (c : tie.Else4) → outside greatestFactor (m (c .before)) ≡ false
 good-factor c = sym (c .before .bad-factor .ensures) ∙ c .if4 .left
 
-few : (c : tie.Else4) → (n (c .before) - 1 - 1) * m (c .before) ≤ 65536
-few c = zoom-few (m (c .before)) (n (c .before) - 1 - 1) (factor (m (c .before)) (good-factor c) .small) (omega arith)
-
-mul-values : tie.Need-mul-values
-mul-values c = omega (arith, few c)
-
-add-values : tie.Need-add-values
-add-values c = omega (arith, few c)
+zoom-count-requires : tie.Need-zoom-count-requires
+zoom-count-requires c κs = (factor (m (c .before)) (good-factor c), omega arith, omega arith)
 
 returns-5 : tie.Need-returns-5
-returns-5 c = let b = c .before in simp (none-missing b, some b, short b, means b, good-factor c)
+returns-5 c =
+    let g = c .before in
+    let b = g .before in
+    simp (none-missing b, some b, short b, means b, good-factor g, c .zoom-count .ensures)
 
 pub judge-numbers-spec : {M : Type 1} → statement M
 judge-numbers-spec =
@@ -77,7 +73,5 @@ judge-numbers-spec =
     (λ c κs. search needs)
     (λ c κs. search needs)
     returns-4
-    (λ c. search needs)
-    mul-values
-    add-values
+    zoom-count-requires
     returns-5)

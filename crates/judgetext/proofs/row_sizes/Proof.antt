@@ -1,13 +1,10 @@
--- `judgetext::row_sizes` meets its contract: each return is the first test that fails, or the last one, and within the limits the count of
--- values fits. Assumes nothing.
+-- `judgetext::row_sizes` meets its contract: each return is the first test that fails, or the last one. Assumes nothing.
 use mathlib.Core.Bool.{false}
 use mathlib.Core.Path.{_≡_, sym, _∙_}
-use Prim.Native.Nat.{_-_, _*_, _≤_}
-use native.Mathlib.Omega.{arith}
 use Rattle.bspline.specs.Limits.{longestRow, greatestFactor}
 use Rattle.bspline.specs.Refusals.{outside}
 use Rattle.bspline.proofs.Refusals.{one-to}
-use Rattle.bspline.proofs.Zoom.{zoom-few}
+use Rattle.answers.proofs.WithinLimits.{factor}
 use Rattle.judgetext.specs.declared.Sizes.{Sizes}
 use Rattle.judgetext.proofs.row_sizes.Statement.{statement}
 use Rattle.judgetext.proofs.row_sizes.Tie as tie
@@ -33,24 +30,18 @@ module _ (c : tie.Else2) where
   small : outside greatestFactor (sizes .factor) ≡ false
   small = sym (c .before .outside2 .ensures) ∙ c .if2 .left
 
-  few : (sizes .samples - 1) * sizes .factor ≤ 65536
-  few =
-      let n = one-to longestRow (sizes .samples) (short row) in
-      zoom-few (sizes .factor) (sizes .samples - 1) (one-to greatestFactor (sizes .factor) small .1) (omega arith)
-
-sub-result : tie.Need-sub-result
-sub-result c = one-to longestRow (sizes c .samples) (short (row c)) .0
-
-mul-result : tie.Need-mul-result
-mul-result c = omega (arith, few c)
-
-add-result : tie.Need-add-result
-add-result c = omega (arith, few c)
+zoom-count-requires : tie.Need-zoom-count-requires
+zoom-count-requires c κs =
+    let n = one-to longestRow (sizes c .samples) (short (row c)) in
+    (factor (sizes c .factor) (small c), n .0, n .1)
 
 returns-3 : tie.Need-returns-3
-returns-3 c = simp (short (row (c .before)), small (c .before))
+returns-3 c =
+    let z = c .before in
+    let t = z .before in
+    simp (short (row t), small t, z .zoom-count .ensures)
 
 pub row-sizes-spec : {M : Type 1} → statement M
 row-sizes-spec =
     tie.close
-    (tie.spec (λ c κs. tt) returns (λ c κs. tt) returns-2 sub-result mul-result add-result returns-3)
+    (tie.spec (λ c κs. tt) returns (λ c κs. tt) returns-2 zoom-count-requires returns-3)

@@ -2,7 +2,7 @@
 -- becomes the values of the row. Assumes nothing.
 use mathlib.Core.Bool.{false}
 use mathlib.Core.Path.{_≡_, sym, _∙_}
-use Prim.Native.Nat.{ℕ, _-_, _*_, _≤_}
+use Prim.Native.Nat.{ℕ}
 use native.Mathlib.Omega.{arith}
 use borrow.Author.Needs.{needs}
 use borrow.Author.Tests.{lt-ltb, le-ltb, eq-eqb, ne-eqb}
@@ -12,7 +12,7 @@ use lib.Seq.{length-take-le}
 use Rattle.bspline.specs.Limits.{longestRow, greatestFactor}
 use Rattle.bspline.specs.Outcomes.{rowZoom}
 use Rattle.bspline.specs.Refusals.{outside}
-use Rattle.bspline.proofs.Zoom.{zoom-length, zoom-few}
+use Rattle.bspline.proofs.Zoom.{zoom-length}
 use Rattle.answers.proofs.WithinLimits.{factor}
 use Rattle.zoom.proofs.row.zoom.Statement.{statement}
 use Rattle.zoom.proofs.row.zoom.Tie as tie
@@ -54,21 +54,15 @@ module _ (c : tie.Else3) where
   good-factor : outside greatestFactor m ≡ false
   good-factor = sym (c .before .bad-factor .ensures) ∙ c .if3 .left
 
-  few : (n - 1) * m ≤ 65536
-  few = zoom-few m (n - 1) (factor m good-factor .small) (omega arith)
-
-sub-count : tie.Need-sub-count
-sub-count c = search needs
-
-mul-count : tie.Need-mul-count
-mul-count c = omega (arith, few c)
-
-add-count : tie.Need-add-count
-add-count c = omega (arith, few c)
+zoom-count-requires : tie.Need-zoom-count-requires
+zoom-count-requires c κs = (factor (m c) (good-factor c), omega arith, omega arith)
 
 returns-4 : tie.Need-returns-4
 unfolding rowZoom
-returns-4 c = simp (some (c .before), short (c .before), good-factor (c .before), lt-ltb _ _ (c .if4 .taken))
+returns-4 c =
+    let z = c .before in
+    let s = z .before in
+    simp (some s, short s, good-factor s, sym (z .zoom-count .ensures), lt-ltb _ _ (c .if4 .taken))
 
 slice-relend-prefix-list-row : tie.Need-slice-relend-prefix-list-row
 slice-relend-prefix-list-row c = search needs
@@ -78,8 +72,9 @@ slice-aggregate-list-row c = sym (length-take-le _ _ (c .before .if4 .left))
 
 list-row-requires : tie.Need-list-row-requires
 list-row-requires c κs =
-    let e = c .before .before in
-    (omega arith, omega arith, factor (m e) (good-factor e), length-take-le _ _ (c .before .if4 .left))
+    let z = c .before .before in
+    let e = z .before in
+    (omega arith, omega arith, factor (m e) (good-factor e), length-take-le _ _ (c .before .if4 .left) ∙ z .zoom-count .ensures)
 
 same-length : tie.Need-same-length
 same-length c = search needs
@@ -88,8 +83,9 @@ returns-5 : tie.Need-returns-5
 unfolding rowZoom
 returns-5 c =
     let t = c .before .before .before in
-    let s = t .before in
-    simp (some s, short s, good-factor s, le-ltb _ _ (t .if4 .left), c .before .list-row .ensures, zoom-length)
+    let z = t .before in
+    let s = z .before in
+    simp (some s, short s, good-factor s, sym (z .zoom-count .ensures), le-ltb _ _ (t .if4 .left), c .before .list-row .ensures, zoom-length)
 
 pub zoom-spec : {M : Type 1} → statement M
 zoom-spec =
@@ -99,9 +95,7 @@ zoom-spec =
     returns-2
     bad-factor-requires
     returns-3
-    sub-count
-    mul-count
-    add-count
+    zoom-count-requires
     returns-4
     slice-relend-prefix-list-row
     slice-aggregate-list-row
