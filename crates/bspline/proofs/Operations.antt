@@ -3,10 +3,10 @@
 -- coefficients begin the buffer, and the accuracy, from which the values' distances and the return of the samples follow. Assumes nothing.
 use mathlib.Core.Bool.{false, _||_}
 use mathlib.Core.List.{List, [], _∷_}
-use mathlib.Core.Path.{_≡_, refl, sym, ap, ap₂, _∙_}
+use mathlib.Core.Path.{_≡_, refl, sym, ap, _∙_}
 use mathlib.Mathlib.Data.Bool.Basic.{or-eq-false-eq-eq-false-and-eq-false}
-use Prim.Native.Nat.{ℕ, max, _-_, _*_, _≤_, _<_}
-use native.Mathlib.Nat.{mod-lt, mul-le-mul-right, mul-div-cancel, mul-mod-left}
+use Prim.Native.Nat.{ℕ, max, _+_, _-_, _*_, _≤_, _<_}
+use native.Mathlib.Nat.{add-zero, mod-lt, mul-le-mul-right}
 use native.Mathlib.Omega.{arith}
 use borrow.Author.Tests.{ltb-false, eqb-false, ne-eqb, eq-eqb, le-ltb}
 use lib.IntN.{ℤ, pos, _*ℤ_}
@@ -24,7 +24,7 @@ use Rattle.bspline.proofs.Lists.{tabulate-from-zero}
 use Rattle.bspline.proofs.PictureLayout.{place-below}
 use Rattle.bspline.proofs.Refusals.{Passed, judged-passed, judged-accepted, one-to, inside, on-data, sample-on-data}
 use Rattle.bspline.proofs.Transforms.{row-length, picture-length}
-use Rattle.bspline.proofs.Zoom.{zoom-length}
+use Rattle.bspline.proofs.Zoom.{position-at, zoom-length}
 use Rattle.bspline.proofs.Values.{row-value-accurate, sample-returns, picture-value-accurate, pixel-returns}
 
 -- ---- what an accepted transform leaves
@@ -152,9 +152,10 @@ module _ (s C : List ℤ) (n : ℕ) (taken : RowTaken s C n) where
       (k : ℕ) → k < n → at vs (k * m) ≡ pos 256 *ℤ at s k
   row-zoom-returns m buffer vs q e k h =
       let t = listed m buffer vs q e in
-      let below : k * m < q = omega (arith, t .count, mul-le-mul-right m (pred-le h)) in
-      t .values (k * m) below
-      ∙ ap₂ (λ (a b : ℕ). valueInRow m (take n C) (record { k = a; j = b })) (mul-div-cancel k (t .factor .0)) (mul-mod-left k m)
+      let below : k * m + 0 < q = omega (arith, t .count, mul-le-mul-right m (pred-le h)) in
+      ap (at vs) (sym (add-zero (k * m)))
+      ∙ t .values (k * m + 0) below
+      ∙ ap (valueInRow m (take n C)) (position-at m k 0 (t .factor .0))
       ∙ sample-returns m (t .factor .0) s (take n C) long near k (omega (arith, taken .count))
     where
       pred-le : {k n : ℕ} → k < n → k ≤ n - 1

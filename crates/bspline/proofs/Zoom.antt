@@ -1,17 +1,33 @@
--- The values that row zoom lists: how many there are, and that the one at place k × m + j is the row value at k + j/m, since k × m + j has the
--- quotient k and the remainder j by m. Assumes nothing.
+-- The positions that row zoom lists and the values there: the position at place k × m + j is k + j/m, since k × m + j has the quotient k and the
+-- remainder j by m, and so the value there is the row value at k + j/m; how many there are. Assumes nothing.
 use mathlib.Core.List.{List}
-use mathlib.Core.Path.{_≡_, ap₂, _∙_}
-use Prim.Native.Nat.{ℕ, _+_, _*_, _≤_, _<_}
-use native.Mathlib.Nat.{mul-le-mul}
+use mathlib.Core.Path.{_≡_, ap, ap₂, _∙_}
+use Prim.Native.Nat.{ℕ, _+_, _-_, _*_, _/_, _≤_, _<_}
+use native.Mathlib.Nat.{mul-le-mul, mul-le-mul-right, div-lt-iff-lt-mul}
+use native.Mathlib.Omega.{arith}
 use lib.Arith.{digits-div, digits-mod}
 use lib.IntN.{ℤ}
 use lib.ListN.{length}
 use Rattle.bspline.specs.Limits.{longestRow, greatestFactor}
 use Rattle.bspline.specs.Lists.{at}
-use Rattle.bspline.specs.Values.{valueInRow, zoomCount, zoomValues}
+use Rattle.bspline.specs.Values.{valueInRow, zoomPosition, zoomCount, zoomValues}
 use Rattle.bspline.proofs.Lists.{tabulate-length, tabulate-from-zero}
 
+-- ---- the positions
+pub position-at : (m k j : ℕ) → j < m → zoomPosition m (k * m + j) ≡ record { k = k; j = j }
+position-at m k j h = ap₂ (λ (a b : ℕ). record { k = a; j = b }) (digits-div k h) (digits-mod k h)
+
+-- each one of the longest row is at a place of it
+pub position-inside : (m i : ℕ) → 0 < m → i < zoomCount m longestRow → i / m < longestRow
+position-inside m i p h = div-lt-iff-lt-mul p .1 (omega arith)
+
+-- a row has no more of them than the longest one
+pub count-inside : (m n : ℕ) → n ≤ longestRow → zoomCount m n ≤ zoomCount m longestRow
+count-inside m n h =
+    let last : n - 1 ≤ longestRow - 1 = omega arith in
+    omega (arith, mul-le-mul-right m last)
+
+-- ---- the values
 pub zoom-length : (m : ℕ) (c : List ℤ) → length (zoomValues m c) ≡ zoomCount m (length c)
 unfolding zoomValues
 zoom-length m c = tabulate-length _ 0 (zoomCount m (length c))
@@ -21,7 +37,7 @@ pub zoom-at : (m : ℕ) (c : List ℤ) (k j : ℕ) → j < m → k * m + j < zoo
 unfolding zoomValues
 zoom-at m c k j h g =
     tabulate-from-zero _ (zoomCount m (length c)) (k * m + j) g
-    ∙ ap₂ (λ (a b : ℕ). valueInRow m c (record { k = a; j = b })) (digits-div k h) (digits-mod k h)
+    ∙ ap (valueInRow m c) (position-at m k j h)
 
 -- they are few: the last of the longest row at the greatest factor stands before place 65,536
 pub zoom-few : (m n : ℕ) → m ≤ greatestFactor → n ≤ longestRow → n * m ≤ 65536

@@ -10,8 +10,8 @@ use borrow.Author.Tests.{ltb-true, lt-ltb, le-ltb}
 use lib.Dec.{ltb}
 use lib.IntN.{ℤ, pos, negsuc}
 use lib.ListN.{length, length-append}
+use Rattle.integers.proofs.Choices.{either}
 use Rattle.decimal.specs.Decimal.{placesUpTo, places, lastDigits, decimal, signedDecimal, field}
-use Rattle.decimal.proofs.Choices.{either}
 
 -- ---- the count of digits
 -- a number below 10^(j + 1) passes each test of a greater power

@@ -1,6 +1,7 @@
 -- Laws of the integers, for proofs: from the parts of a number up to linear arithmetic and polynomial identities in one line,
--- then absolute values, division and rounding, and what the machine does with signed numbers.
+-- then absolute values, division and rounding, and what the machine does with signed numbers. Before them stand laws of a test.
 -- docs/INTEGERS.md says how they are used; Examples shows it. Assumes nothing.
+pub mod Choices
 pub mod Parts
 pub mod Linear
 pub mod Laws

@@ -15,6 +15,7 @@ use lib.Signed.{_≤ℤ_, _<ℤ_, leZ, ltZ, leZ-yes, ltZ-yes, ltZ-no, clashℤ, 
 use mir.Syntax.{Width}
 use mir.Val.{Fits, SFits, bits, hbits}
 use Rattle.integers.specs.Bound.{Within}
+use Rattle.integers.proofs.Choices.{by-test}
 
 -- z, or 0 where z is negative
 abbrev pub positive : ℤ → ℕ
@@ -27,11 +28,6 @@ negative (pos n) = 0
 negative (negsuc n) = suc n
 
 -- ---- the operations
-
--- one of two statements holds, by a test
-either : (b : Bool) {Q : Type 0} → (T b → Q) → (T (not b) → Q) → Q
-either true f g = f tt
-either false f g = g tt
 
 -- a - b, of two naturals
 sub-nat : (a b : ℕ) → positive (subℕ a b) + b ≡ a + negative (subℕ a b)
@@ -115,7 +111,7 @@ pub of-lt : {x y : ℤ} → x <ℤ y → positive x + negative y < positive y + 
 of-lt {x} {y} h = by-contra (suc (positive x + negative y)) (positive y + negative x) (λ k. clashℤ h (le-of (omega arith)))
 
 pub lt-of : {x y : ℤ} → positive x + negative y < positive y + negative x → x <ℤ y
-lt-of {x} {y} h = either (ltZ x y) ltZ-yes (λ t. let k : y ≤ℤ x = ltZ-no t in absurd (omega (arith, of-le k)))
+lt-of {x} {y} h = by-test (ltZ x y) ltZ-yes (λ t. let k : y ≤ℤ x = ltZ-no t in absurd (omega (arith, of-le k)))
 
 pub eq-nat : (x y : ℤ) → (x ≡ y) ↔ (positive x + negative y ≡ positive y + negative x)
 eq-nat x y = (of-eq, eq-of)
@@ -181,7 +177,7 @@ pub ltZ-false : (x y : ℤ) → (ltZ x y ≡ false) ↔ (y ≤ℤ x)
 ltZ-false x y = test-false (ltZ x y) (ltZ-yes, λ h. h .lt) ltZ-no clashℤ
 
 leZ-no : {x y : ℤ} → T (not (leZ x y)) → y <ℤ x
-leZ-no {x} {y} t = either (ltZ y x) ltZ-yes (λ u. let k : x ≤ℤ y = ltZ-no u in absurd (T-not (leZ x y) t (k .le)))
+leZ-no {x} {y} t = by-test (ltZ y x) ltZ-yes (λ u. let k : x ≤ℤ y = ltZ-no u in absurd (T-not (leZ x y) t (k .le)))
 
 pub leZ-true : (x y : ℤ) → (leZ x y ≡ true) ↔ (x ≤ℤ y)
 leZ-true x y = test-true (leZ x y) (leZ-yes, λ h. h .le) leZ-no (λ h k. clashℤ k h)

@@ -1,8 +1,7 @@
 -- The bounds of sizes that a text can have: those of the longest row and of the greatest factor, and so of the count of values. Assumes nothing.
 use mathlib.Core.Bool.{true, not, _&&_, and-eq-true-iff}
 use mathlib.Core.Path.{_≡_}
-use Prim.Native.Nat.{ℕ, _-_, _≤_, _<_}
-use native.Mathlib.Nat.{mul-le-mul-right}
+use Prim.Native.Nat.{_≤_, _<_}
 use native.Mathlib.Omega.{arith}
 use borrow.Author.Tests.{eqb-true, not-true}
 use lib.Dec.{eqb}
@@ -10,15 +9,10 @@ use Rattle.bspline.specs.Limits.{longestRow, greatestFactor}
 use Rattle.bspline.specs.Refusals.{outside}
 use Rattle.bspline.specs.Values.{zoomCount}
 use Rattle.bspline.proofs.Refusals.{one-to}
+use Rattle.bspline.proofs.Zoom.{count-inside}
 use Rattle.judgetext.specs.Answers.{rowSizes}
 use Rattle.judgetext.specs.Limits.{mostValues}
 use Rattle.judgetext.specs.declared.Sizes.{Sizes}
-
--- a row has no more values than the longest one
-pub count-inside : (m n : ℕ) → n ≤ longestRow → zoomCount m n ≤ zoomCount m longestRow
-count-inside m n h =
-    let last : n - 1 ≤ longestRow - 1 = omega arith in
-    omega (arith, mul-le-mul-right m last)
 
 pub record Sized (s : Sizes) : Type 0 where
   pub short : s .samples ≤ longestRow

@@ -1,15 +1,14 @@
 -- The lines of values: those of some and then those of others, one line more, and the position of the line after one. Assumes nothing.
 use mathlib.Core.List.{List, [], _∷_, _++_, append-assoc, append-nil}
 use mathlib.Core.Path.{_≡_, sym, ap, ap₂, _∙_}
-use Prim.Native.Nat.{ℕ, zero, suc, _+_, _-_, _*_, _/_, _≤_, _<_}
-use native.Mathlib.Nat.{zero-add, add-zero, suc-add, add-assoc, add-mul, div-lt-iff-lt-mul}
+use Prim.Native.Nat.{ℕ, zero, suc, _+_, _-_, _*_, _≤_, _<_}
+use native.Mathlib.Nat.{zero-add, add-zero, suc-add, add-assoc, add-mul}
 use native.Mathlib.Omega.{arith}
-use lib.Arith.{digits-div, digits-mod}
 use lib.IntN.{ℤ}
 use lib.ListN.{length, take, drop, getD}
 use lib.Seq.{take-nil, drop-cons, drop-drop}
-use Rattle.bspline.specs.Limits.{longestRow}
-use Rattle.bspline.specs.Values.{zoomPosition, zoomCount}
+use Rattle.bspline.specs.Values.{zoomPosition}
+use Rattle.bspline.proofs.Zoom.{position-at}
 use Rattle.printtext.specs.Lines.{between}
 use Rattle.printtext.specs.Output.{valueLine, valueLines}
 
@@ -43,10 +42,6 @@ lines-more m from i vs z h k =
     ∙ ap₂ (λ (n : ℕ) (l : List ℤ). done ++ valueLines m n (take 1 l)) here value
     ∙ ap (λ (l : List ℕ). done ++ l) (append-nil (valueLine (zoomPosition m i) (getD vs i z)))
 
--- the position at place k × m + j
-position-at : (m k j : ℕ) → j < m → zoomPosition m (k * m + j) ≡ record { k = k; j = j }
-position-at m k j h = ap₂ (λ (a b : ℕ). record { k = a; j = b }) (digits-div k h) (digits-mod k h)
-
 -- the position after one: the next numerator, or the next place
 pub position-next : (m k j : ℕ) → j + 1 < m → record { k = k; j = j + 1 } ≡ zoomPosition m (k * m + j + 1)
 position-next m k j h = sym (ap (zoomPosition m) (add-assoc (k * m) j 1) ∙ position-at m k (j + 1) h)
@@ -55,7 +50,3 @@ pub position-carried : (m k j : ℕ) → j < m → j + 1 ≡ m → record { k = 
 position-carried m k j h e =
     let place : k * m + j + 1 ≡ (k + 1) * m + 0 = omega (arith, add-mul k 1 m) in
     sym (ap (zoomPosition m) place ∙ position-at m (k + 1) 0 (omega arith))
-
--- each value of the longest row stands at a place of it
-pub position-inside : (m i : ℕ) → 0 < m → i < zoomCount m longestRow → i / m < longestRow
-position-inside m i p h = div-lt-iff-lt-mul p .1 (omega arith)

@@ -13,13 +13,14 @@ use mir.Syntax.{w32}
 use mir.Val.{SFits}
 use Rattle.bspline.specs.Limits.{longestRow}
 use Rattle.bspline.specs.Values.{Position as Place, zoomPosition}
+use Rattle.bspline.proofs.Zoom.{position-inside}
 use Rattle.answers.specs.Answers.{placed}
 use Rattle.answers.specs.declared.Position.{Position}
 use Rattle.decimal.specs.Buffers.{Put}
 use Rattle.decimal.proofs.Buffers.{put-none, put-then}
 use Rattle.printtext.specs.Lines.{between, Lines}
 use Rattle.printtext.specs.Output.{valueLine, longestLine, valueLines}
-use Rattle.printtext.proofs.ValueLines.{lines-more, position-inside}
+use Rattle.printtext.proofs.ValueLines.{lines-more}
 use Rattle.printtext.proofs.lines.put_lines.Statement.{statement}
 use Rattle.printtext.proofs.lines.put_lines.Tie as tie
 
