@@ -1,15 +1,20 @@
--- The enums of `readtext`, read as what was found in a line and in a text. Assumes nothing.
+-- What the functions of `readtext` find in a line and in a text, its enums read as that. Assumes nothing.
+use mathlib.Core.Bool.{cond}
 use mathlib.Core.List.{List}
 use mathlib.Core.Option.{Option, none, some}
 use mathlib.Core.Path.{_≡_}
 use Prim.Native.Nat.{ℕ}
 use lib.IntN.{ℤ}
 use lib.ListN.{length, take}
-use Rattle.readtext.specs.Numbers.{numbers}
+use Rattle.readtext.specs.Numbers.{valueAfter, wellFormed, numbers}
 use Rattle.readtext.specs.declared.line.Number.{Number}
 use Rattle.readtext.specs.declared.line.Number.the-variants.{Is, Illegal as NoNumber}
 use Rattle.readtext.specs.declared.text.Numbers.{Numbers}
 use Rattle.readtext.specs.declared.text.Numbers.the-variants.{Count, Illegal}
+
+-- the number that 1 to 5 digits write, and for other bytes one that is out of range
+abbrev pub sizeOf : List ℕ → ℕ
+sizeOf bs = cond (wellFormed bs) (valueAfter 0 bs) 100000
 
 -- what was read of a line
 abbrev pub numberRead : Number → Option ℤ

@@ -1,8 +1,10 @@
 // The number of one line of text.
-ghost use mathlib.Core.Bool.{true};
 ghost use mathlib.Core.Path.{_≡_};
-ghost use Rattle.readtext.specs.Numbers.{allDigits, valueAfter, wellFormed, signedNumber, lineNumber};
-ghost use Rattle.readtext.specs.Readings.{numberRead};
+ghost use Rattle.readtext.specs.Numbers.{signedNumber, lineNumber};
+ghost use Rattle.readtext.specs.Readings.{sizeOf, numberRead};
+
+// A size above those of the numbers that are allowed.
+const TOO_LARGE: u64 = 100000;
 
 // What a line means: a number, or nothing.
 pub(crate) enum Number {
@@ -10,59 +12,37 @@ pub(crate) enum Number {
     Illegal,
 }
 
-// Whether every byte is a digit.
-fn all_digits(bytes: &[u8]) -> bool
-    ensures { λ r. ⌜ r ≡ allDigits (now (bytes .entry)) ⌝ }
+// The number that 1 to 5 digits write. Of other bytes it is one that no line can mean.
+fn size_of(digits: &[u8]) -> u64
+    ensures { λ r. ⌜ r ≡ sizeOf (now (digits .entry)) ⌝ }
 {
-    let mut i = 0;
-    while i < bytes.len() {
-        let b = bytes[i];
-        if b < b'0' {
-            return false;
-        }
-        if b'9' < b {
-            return false;
-        }
-        i += 1;
+    if digits.len() < 1 {
+        return TOO_LARGE;
     }
-    true
-}
-
-// Whether the bytes are 1 to 5 digits.
-fn well_formed(bytes: &[u8]) -> bool
-    ensures { λ r. ⌜ r ≡ wellFormed (now (bytes .entry)) ⌝ }
-{
-    if bytes.len() < 1 {
-        return false;
+    if 5 < digits.len() {
+        return TOO_LARGE;
     }
-    if 5 < bytes.len() {
-        return false;
-    }
-    all_digits(bytes)
-}
-
-// The number that at most five digits write.
-fn value_of(digits: &[u8]) -> u64
-    requires { ⌜ wellFormed (now digits) ≡ true ⌝ }
-    ensures { λ r. ⌜ r ≡ valueAfter 0 (now (digits .entry)) ⌝ }
-{
-    let mut value = 0;
+    let mut size = 0;
     let mut i = 0;
     while i < digits.len() {
-        value = 10 * value + (digits[i] - b'0') as u64;
+        let b = digits[i];
+        if b < b'0' {
+            return TOO_LARGE;
+        }
+        if b'9' < b {
+            return TOO_LARGE;
+        }
+        size = 10 * size + (b - b'0') as u64;
         i += 1;
     }
-    value
+    size
 }
 
 // The number of digits after a sign.
 fn signed_number(minus: bool, digits: &[u8]) -> Number
     ensures { λ r. ⌜ numberRead r ≡ signedNumber minus (now (digits .entry)) ⌝ }
 {
-    if !well_formed(digits) {
-        return Number::Illegal;
-    }
-    let size = value_of(digits);
+    let size = size_of(digits);
     if minus {
         if 32768 < size {
             return Number::Illegal;

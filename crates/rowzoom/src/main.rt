@@ -2,6 +2,7 @@
 // are and which parts there are is the crate rowtext's; this program reads, calls it and writes.
 ghost use Prim.Native.Nat.{_≤_};
 ghost use lib.ListN.{length};
+use rowtext::LONGEST_TEXT;
 use rowtext::Zoomed;
 use rowtext::output::more_parts;
 use rowtext::output::print_part;
@@ -9,9 +10,6 @@ use rowtext::zoom::judge_text;
 use rowtext::zoom::text_room;
 use rowtext::zoom::value_room;
 use rowtext::zoom::zoom_text;
-
-// The bytes of the longest text that is judged before its values are listed.
-const SHORT_TEXT: usize = 4096;
 
 fn write_part(zoomed: Zoomed, values: &[i32], part: usize, block: &mut [u8]) {
     let count = print_part(zoomed, values, part, block);
@@ -36,12 +34,11 @@ fn write_values(bytes: &mut [u8], n: usize)
     write_output(zoomed, &values, bytes);
 }
 
-// A short text is judged first, since most of its time would go into the array of the values, which a refused text does not need. A long one is not:
-// to read it twice would take longer.
+// A text is judged before it gets an array for its values, which a refused one does not need. One that is too long is refused without being read.
 fn main() {
     let mut bytes = text_room();
     let n = io::read_full(0, &mut bytes);
-    if SHORT_TEXT < n {
+    if LONGEST_TEXT < n {
         return write_values(&mut bytes, n);
     }
     let judged = judge_text(&bytes[..n]);
