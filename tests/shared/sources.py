@@ -8,9 +8,13 @@ ROOT = os.path.dirname(os.path.dirname(os.path.dirname(os.path.abspath(__file__)
 WORD = re.compile(r"\[\]|[^\s(){}\[\];,⌜⌝]+")
 IMPORT = re.compile(r"\s*(?:pub )?(?:ghost )?use (\S+?)\.\{(.*)\};?\s*$")
 ALIAS = re.compile(r"\s*use (\S+) as (\S+)\s*$")
+CODE_IMPORT = re.compile(r"\s*(?:pub )?use ([\w:]+)::(\w+)(?: as (\w+))?;\s*$")
+ANY_IMPORT = re.compile(r"\s*(?:\w+ )*use\b")
+CODE_DECLARATION = re.compile(r"\s*(?:pub(?:\(crate\))? )?(?:enum|struct|const) (\w+)\b")
 SECTION = re.compile(r"module _\b")
 NAMED = re.compile(r"(?:abbrev |unfoldable )?(?:pub )?(?:record|data) (\S+)|(?:pub )?ruleset (\S+) =|(?:abbrev |unfoldable )?(?:pub )?([^\s:=(){}]+)(?: \{[^}]*\})* :(?: |$)")
 MODULE = re.compile(r"Rattle·(\w+?)(?:·(?:specs|proofs))?\.(specs|proofs)\.(.*)$")
+DECLARED = re.compile(r"declared\.(?:(.*)\.)?([^.]+?)(?:\.the-variants)?$")
 
 
 def words(lines):
@@ -29,7 +33,8 @@ def stands(name, found):
 
 
 class Source:
-    """One file: its crate and its path in it, its imports by the name they have here, and its declarations by their lines."""
+    """One file: its crate and its path in it, its imports by the name they have here, and its declarations by their lines. Of Rattle code the
+    types and constants are listed apart."""
 
     def __init__(self, crate, path):
         self.crate = crate
@@ -39,11 +44,14 @@ class Source:
             self.text = file.read()
         self.imports = {}
         self.aliases = {}
+        self.code_imports = {}
+        self.unread_imports = []
         self.body = []
         for line in self.text.split("\n"):
             self.body.append(self.without_import(line.split("//")[0] if self.rattle else re.sub(r"(^|\s)--.*$", "", line)))
         self.words = words(self.body)
         self.declarations = {} if self.rattle else self.blocks()
+        self.code_declarations = [found.group(1) for found in map(CODE_DECLARATION.match, self.body) if found] if self.rattle else []
         self.constructors = {word: name for name, lines in self.declarations.items() for word in constructors(lines)}
 
     def without_import(self, line):
@@ -51,13 +59,26 @@ class Source:
         if found and (not self.rattle or "ghost use" in line):
             for item in found.group(2).split(","):
                 names = item.strip().split(" as ")
+                if "." in names[0]:
+                    self.unread_imports.append(line.strip())
                 self.imports[names[-1].strip()] = (found.group(1), names[0].strip())
             return ""
         found = ALIAS.match(line)
         if found and not self.rattle:
             self.aliases[found.group(2)] = found.group(1)
             return ""
+        found = CODE_IMPORT.match(line)
+        if found and self.rattle:
+            self.code_imports[found.group(3) or found.group(2)] = (found.group(1), found.group(2))
+        elif ANY_IMPORT.match(line):
+            self.unread_imports.append(line.strip())
         return line
+
+    def renamed(self):
+        """The names that this file gives to what it imports, where they are not those that it has, each with what it names."""
+        found = [(name, f"{module}.{original}") for name, (module, original) in self.imports.items() if name != original]
+        found += self.aliases.items()
+        return found + [(name, f"{module}::{original}") for name, (module, original) in self.code_imports.items() if name != original]
 
     def blocks(self):
         """The lines of each declaration, from its first line to the next declaration; what a section binds belongs to all of its file."""
@@ -139,6 +160,22 @@ class Sources:
         if name in file.declarations:
             return [(key, name)]
         return [(key, file.constructors[name])] if name in file.constructors else []
+
+    def meant_in_code(self, source, word):
+        """The types and constants of Rattle code that a word of a file can mean, each by its file and its name."""
+        if word in source.code_declarations:
+            return [((source.crate, source.path), word)]
+        if word in source.code_imports:
+            module, original = source.code_imports[word]
+            crate, *above = module.split("::")
+            return self.declared_in_code(source.crate if crate == "crate" else crate, above, original)
+        module = MODULE.match(source.imports.get(word, ("",))[0])
+        found = module and DECLARED.match(module.group(3))
+        return self.declared_in_code(module.group(1), (found.group(1) or "").split("."), found.group(2)) if found else []
+
+    def declared_in_code(self, crate, above, name):
+        file = self.files.get((crate, "src/" + ("/".join(filter(None, above)) or "lib") + ".rt"))
+        return self.meant_in_code(file, name) if file else []
 
     def reached(self, roots):
         """The declarations that the roots name, directly or through others."""

@@ -17,15 +17,15 @@ pub struct Weights {
 
 // The cube of a factor, a numerator or their difference.
 fn cube(x: i64) -> i64
-    requires { ⌜ Within 16 x ⌝ }
-    ensures { λ r. ⌜ (r ≡ cube x) × Within (16 ^ 3) r ⌝ }
+    requires { ⌜ Within greatestFactor x ⌝ }
+    ensures { λ r. ⌜ (r ≡ cube x) × Within (greatestFactor ^ 3) r ⌝ }
 {
     x * x * x
 }
 
 // The weight on a place at the distance j / m, up to one place: 3j³ - 6j²m + 4m³.
 fn inner(j: i64, m: i64) -> i64
-    requires { ⌜ Within 16 j × Within 16 m ⌝ }
+    requires { ⌜ Within greatestFactor j × Within greatestFactor m ⌝ }
     ensures { λ r. ⌜ r ≡ pos 3 *ℤ cube j -ℤ pos 6 *ℤ (j *ℤ j) *ℤ m +ℤ pos 4 *ℤ cube m ⌝ }
 {
     3 * cube(j) - 6 * (j * j) * m + 4 * cube(m)
@@ -50,7 +50,7 @@ pub fn weights_at(m: usize, j: usize) -> Weights
 // m³.
 fn factor_cubed(m: usize) -> i64
     requires { ⌜ m ≤ greatestFactor ⌝ }
-    ensures { λ r. ⌜ (r ≡ pos (m ^ 3)) × Within (16 ^ 3) r ⌝ }
+    ensures { λ r. ⌜ (r ≡ pos (m ^ 3)) × Within (greatestFactor ^ 3) r ⌝ }
 {
     cube(m as i64)
 }
