@@ -2,7 +2,7 @@
 pub mod room;
 
 ghost use mathlib.Core.Path.{_≡_};
-ghost use Rattle.judgetext.specs.Answers.{rowSizes, replied, judgedNumbers};
+ghost use Rattle.judgetext.specs.Answers.{rowSizes, replied, judgedNumbers, ReadsText};
 ghost use Rattle.judgetext.specs.Outcomes.{factorOf, reply, zoomText};
 use answers::Refusal;
 use answers::checks::bad_factor;
@@ -77,15 +77,22 @@ fn judge_numbers(first: i16, n: usize) -> Zoomed
     })
 }
 
+// The count of the numbers of a text that is not too long, of which as many as the buffer holds are put at its start.
+pub fn read_text(text: &[u8], buffer: &mut [i16]) -> Numbers
+    ensures { λ r. ⌜ ReadsText (now (text .entry)) (now (buffer .exit)) r ⌝ }
+{
+    if LONGEST_TEXT < text.len() {
+        return Numbers::Illegal;
+    }
+    read_numbers(text, buffer)
+}
+
 // Whether a text is refused, and what sizes its row has, before there is a buffer for its values.
 pub fn judge_text(text: &[u8]) -> Zoomed
     ensures { λ r. ⌜ replied r ≡ reply (zoomText (now (text .entry))) ⌝ }
 {
-    if LONGEST_TEXT < text.len() {
-        return Zoomed::Refused(Refusal::BadText);
-    }
     let mut first = [0i16; 1];
-    match read_numbers(text, &mut first) {
+    match read_text(text, &mut first) {
         Numbers::Count(n) => judge_numbers(first[0], n),
         Numbers::Illegal => Zoomed::Refused(Refusal::BadText),
     }

@@ -85,8 +85,7 @@ unfolding numbers lines
 progress-all {text} {buffer} {from} {count} p h = record {
   all = p .read;
   legal = p .all ∙ ap (λ t. prepended (p .read) (numbers t)) (drop-of-length-le text h) ∙ ap some (append-nil (p .read));
-  count = p .counted;
-  begin = p .begin;
+  begun = record { count = p .counted; begin = p .begin };
 }
 
 -- one number more, which a full buffer does not hold

@@ -21,12 +21,16 @@ abbrev pub numberRead : Number → Option ℤ
 numberRead (Is z) = some z
 numberRead NoNumber = none
 
--- a legal text has so many numbers, of which as many as a buffer holds are at its start
+-- a list of n numbers, of which as many as a buffer holds are at its start
+pub record Begun (l : List ℤ) (n : ℕ) (buffer : List ℤ) : Type 0 where
+  pub count : length l ≡ n
+  pub begin : take (length buffer) l ≡ take n buffer
+
+-- a legal text has such numbers
 pub record Holds (t : List ℕ) (buffer : List ℤ) (n : ℕ) : Type 0 where
   pub all : List ℤ
   pub legal : numbers t ≡ some all
-  pub count : length all ≡ n
-  pub begin : take (length buffer) all ≡ take n buffer
+  pub begun : Begun all n buffer
 
 -- what was read of a text, into a buffer
 abbrev pub Reads : List ℕ → List ℤ → Numbers → Type 0

@@ -6,9 +6,10 @@ use mathlib.Core.Path.{_≡_}
 use Prim.Native.Nat.{ℕ}
 use lib.Dec.{ltb}
 use lib.IntN.{ℤ}
-use lib.ListN.{length, take}
+use lib.ListN.{length}
 use Rattle.bspline.specs.Outcomes.{overwrite, Evaluated}
 use Rattle.bspline.specs.Refusals.{Answer, count, value, refusal}
+use Rattle.readtext.specs.Readings.{Begun}
 use Rattle.judgetext.specs.Outcomes.{Outcome, row, refused, Reply, sized, declined, zoomNumbers}
 
 pub record Kept : Type 0 where
@@ -32,11 +33,6 @@ replyOf n m (refusal k) = declined k
 abbrev pub listed : ℕ → ℕ → Evaluated → Kept
 listed n m o = record { answer = replyOf n m (o .answer); values = o .values }
 
--- a list of n numbers, of which as many as a buffer holds are at its start
-pub record Begun (l : List ℤ) (n : ℕ) (buffer : List ℤ) : Type 0 where
-  pub count : length l ≡ n
-  pub begin : take (length buffer) l ≡ take n buffer
-
--- the outcome of every such list, with the values in a buffer
+-- the outcome of every list of n numbers that begins as a buffer does, with the values in another buffer
 abbrev pub ZoomsNumbers : ℕ → List ℤ → List ℤ → Kept → Type 0
 ZoomsNumbers n numbers buffer o = (l : List ℤ) → Begun l n numbers → o ≡ kept (zoomNumbers (some l)) buffer

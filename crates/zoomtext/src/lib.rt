@@ -11,12 +11,11 @@ use answers::Refusal;
 use answers::Written;
 use answers::limits::LONGEST_ROW;
 use answers::limits::LONGEST_ROW_WORK;
-use judgetext::LONGEST_TEXT;
 use judgetext::Sizes;
 use judgetext::Zoomed;
 use judgetext::factor_of;
+use judgetext::read_text;
 use readtext::text::Numbers;
-use readtext::text::read_numbers;
 
 // The values of coefficients at a factor, from the buffer's start.
 fn zoom_row(coefficients: &[i32], m: usize, values: &mut [i32]) -> Zoomed
@@ -68,11 +67,8 @@ fn zoom_numbers(numbers: &[i16], n: usize, values: &mut [i32]) -> Zoomed
 pub fn zoom_text(text: &[u8], values: &mut [i32]) -> Zoomed
     ensures { λ r. ⌜ record { answer = replied r; values = now (values .exit) } ≡ kept (zoomText (now (text .entry))) (now (values .entry)) ⌝ }
 {
-    if LONGEST_TEXT < text.len() {
-        return Zoomed::Refused(Refusal::BadText);
-    }
     let mut numbers = [0i16; LONGEST_ROW + 1];
-    match read_numbers(text, &mut numbers) {
+    match read_text(text, &mut numbers) {
         Numbers::Count(n) => zoom_numbers(&numbers, n, values),
         Numbers::Illegal => Zoomed::Refused(Refusal::BadText),
     }

@@ -14,7 +14,7 @@ use mir.Facts.{toZ-ofZ}
 use mir.Syntax.{w16}
 use mir.Val.{SFits}
 use Rattle.bspline.specs.Limits.{longestRow}
-use Rattle.zoomtext.specs.Kept.{Begun}
+use Rattle.readtext.specs.Readings.{Begun}
 use Rattle.judgetext.specs.Outcomes.{refused, factorOf, zoomSamples, zoomNumbers}
 use Rattle.zoomtext.specs.Kept.{kept}
 use Rattle.zoomtext.proofs.zoom_numbers.Statement.{statement}

@@ -1,66 +1,48 @@
--- `zoomtext::zoom_text` meets its contract: a text that is not too long has the numbers that were read of it, or none. Assumes nothing.
+-- `zoomtext::zoom_text` meets its contract: the outcome of the text is that of the numbers that were read of it, or of none. Assumes nothing.
 use mathlib.Core.List.{List}
 use mathlib.Core.Path.{_≡_, _∙_, subst}
 use Prim.Native.Nat.{ℕ}
 use borrow.Author.Needs.{needs}
 use lib.IntN.{ℤ}
-use Rattle.readtext.specs.Numbers.{numbers}
-use Rattle.readtext.specs.Readings.{Reads, Holds}
 use Rattle.readtext.specs.declared.text.Numbers.{Numbers}
-use Rattle.judgetext.specs.Outcomes.{zoomNumbers, zoomText}
+use Rattle.judgetext.specs.Answers.{Numbered, ReadsText}
 use Rattle.zoomtext.specs.Kept.{kept}
-use Rattle.judgetext.proofs.TextOutcome.{too-long, of-numbers}
 use Rattle.zoomtext.proofs.zoom_text.Statement.{statement}
 use Rattle.zoomtext.proofs.zoom_text.Tie as tie
 
-returns : tie.Need-returns
-unfolding kept
-returns c = rw (too-long (c .before .before .args .text .now) (c .if1 .taken))
-
--- what was read of a text that is not too long
-module _ (c : tie.After-read-numbers) where
+-- what was read of the text
+module _ (c : tie.After-read-text) where
   abbrev text : List ℕ
-  text = c .before .before .before .before .args .text .now
+  text = c .before .before .before .args .text .now
 
   abbrev buffer : List ℤ
-  buffer = c .read-numbers .last .1 .0
+  buffer = c .read-text .last .1 .0
 
-  reads : {r : Numbers} → c .read-numbers .result ≡ r → Reads text buffer r
-  reads e = subst (Reads text buffer) e (c .read-numbers .ensures)
+  reads : {r : Numbers} → c .read-text .result ≡ r → ReadsText text buffer r
+  reads e = subst (ReadsText text buffer) e (c .read-text .ensures)
 
-  short : zoomText text ≡ zoomNumbers (numbers text)
-  short = of-numbers text (c .before .before .if1 .left)
-
--- the numbers of a legal text
-module _ (c : tie.After-n) where
-  abbrev done : tie.After-read-numbers
-  done = c .before .before .before
-
-  all : Holds (text done) (buffer done) (c .n .given .0 .0)
-  all = reads done (c .n .given .1)
-
-returns-2 : tie.Need-returns-2
-returns-2 c =
+returns : tie.Need-returns
+returns c =
     let z = c .before in
     let r = z .before .before .before .before in
-    let h = all r in
-    z .zoom-numbers .ensures (h .all) (record { count = h .count; begin = h .begin }) ∙ rw (short (done r), h .legal)
+    let d = r .before .before .before in
+    let h : Numbered (text d) (buffer d) (r .n .given .0 .0) = reads d (r .n .given .1) in
+    z .zoom-numbers .ensures (h .all) (h .begun) ∙ rw (h .outcome)
 
-returns-3 : tie.Need-returns-3
+returns-2 : tie.Need-returns-2
 unfolding kept
-returns-3 c = let r = c .before .before .before in rw (short r, reads r (c .enum-told .given .1))
+returns-2 c = let r = c .before .before .before in rw (reads r (c .enum-told .given .1))
 
 pub zoom-text-spec : {M : Type 1} → statement M
 zoom-text-spec =
     tie.close
     (tie.spec
+    (λ c. search needs)
+    (λ c κs. search needs)
+    (λ c. search needs)
+    (λ c. search needs)
+    (λ c κs. search needs)
+    (λ c. search needs)
+    (λ c. search needs)
     returns
-    (λ c. search needs)
-    (λ c κs. search needs)
-    (λ c. search needs)
-    (λ c. search needs)
-    (λ c κs. search needs)
-    (λ c. search needs)
-    (λ c. search needs)
-    returns-2
-    returns-3)
+    returns-2)
