@@ -28,6 +28,13 @@ extern "C" {
         values: *mut i32,
         values_length: usize,
     ) -> i64;
+
+    fn harness_wav_read(
+        bytes: *const u8,
+        bytes_length: usize,
+        samples: *mut i16,
+        samples_length: usize,
+    ) -> i64;
 }
 
 pub fn row_transform(samples: &[i16], coefficients: &mut [i32], work: &mut [i64]) -> i64 {
@@ -75,6 +82,18 @@ pub fn row_zoom(coefficients: &[i32], factor: usize, values: &mut [i32]) -> i64 
             factor,
             values.as_mut_ptr(),
             values.len(),
+        )
+    }
+}
+
+pub fn wav_read(bytes: &[u8], samples: &mut [i16]) -> i64 {
+    // SAFETY: as above.
+    unsafe {
+        harness_wav_read(
+            bytes.as_ptr(),
+            bytes.len(),
+            samples.as_mut_ptr(),
+            samples.len(),
         )
     }
 }

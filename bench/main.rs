@@ -1,14 +1,16 @@
-//! Measures the library beside the same operations in safe Rust and beside the classic algorithm in C.
+//! Measures the library beside the same operations in safe Rust and in C, where the splines are by the classic algorithm.
 //!
 //! `main list` prints the name, the repetitions and the title of each case, parted by tabs. `main NAME` measures one case and prints three
 //! times in microseconds: the library's, that of Rust and that of C. Each is the minimum over the repetitions; each repetition has fresh data,
 //! which all get. The answers of library and Rust and every number of their buffers are compared, and the results of C, which are not exact,
-//! must lie near those of the library. A difference ends the program with status 1.
+//! must lie near those of the library. A difference ends the program with status 1. files.rs has the cases that read files.
 
 mod classic;
 mod data;
+mod files;
 mod library;
 mod rust;
+mod wave;
 
 use std::process::ExitCode;
 use std::time::{Duration, Instant};
@@ -232,8 +234,8 @@ fn excess(case: &Case, library: &Output, c: &Output) -> Option<String> {
     ))
 }
 
-/// The least times of the library, of Rust and of C. They take turns in going first.
-fn measure(case: &Case) -> Result<[Duration; 3], String> {
+/// The least times of the library, of Rust and of C, in microseconds. They take turns in going first.
+fn measure(case: &Case) -> Result<[f64; 3], String> {
     let operations = [case.library, case.rust, case.c];
     let mut from = Input::new(case);
     let mut to = [Output::exact(case), Output::exact(case), Output::real(case)];
@@ -258,25 +260,36 @@ fn measure(case: &Case) -> Result<[Duration; 3], String> {
             return Err(format!("{place}: library and C differ too much in {what}"));
         }
     }
-    Ok(least)
+    Ok(least.map(|time| time.as_nanos() as f64 / 1000.0))
+}
+
+fn print_cases() {
+    let operations = CASES.iter().map(|c| (c.name, c.repetitions, c.title));
+    let readings = files::CASES
+        .iter()
+        .map(|c| (c.name, c.repetitions, c.title));
+    for (name, repetitions, title) in operations.chain(readings) {
+        println!("{name}\t{repetitions}\t{title}");
+    }
 }
 
 fn main() -> ExitCode {
     let word = std::env::args().nth(1).unwrap_or_default();
     if word == "list" {
-        for case in &CASES {
-            println!("{}\t{}\t{}", case.name, case.repetitions, case.title);
-        }
+        print_cases();
         return ExitCode::SUCCESS;
     }
-    let Some(case) = CASES.iter().find(|case| case.name == word) else {
+    let least = if let Some(case) = CASES.iter().find(|case| case.name == word) {
+        measure(case)
+    } else if let Some(case) = files::CASES.iter().find(|case| case.name == word) {
+        files::measure(case)
+    } else {
         eprintln!("bench: no case '{word}'; 'list' prints them");
         return ExitCode::from(2);
     };
-    match measure(case) {
-        Ok(least) => {
-            let [library, rust, c] = least.map(|time| time.as_nanos() as f64 / 1000.0);
-            println!("{library:.2} {rust:.2} {c:.2}");
+    match least {
+        Ok([library, rust, c]) => {
+            println!("{library:.5} {rust:.5} {c:.5}");
             ExitCode::SUCCESS
         }
         Err(what) => {

@@ -174,3 +174,61 @@ pub fn row_zoom(coefficients: &[i32], factor: usize, values: &mut [i32]) -> i64 
     }
     count as i64
 }
+
+/// The number of two bytes from a place on, the low one first.
+fn short(bytes: &[u8], at: usize) -> u16 {
+    u16::from_le_bytes([bytes[at], bytes[at + 1]])
+}
+
+/// The number of four bytes from a place on, the lowest first.
+fn long(bytes: &[u8], at: usize) -> u32 {
+    u32::from_le_bytes([bytes[at], bytes[at + 1], bytes[at + 2], bytes[at + 3]])
+}
+
+/// The first 16 bytes of a WAVE file's first "fmt " chunk, and its first "data" chunk, if the file has both in this order.
+fn chunks(bytes: &[u8]) -> Option<(&[u8; 16], &[u8])> {
+    let (head, mut rest) = bytes.split_at_checked(12)?;
+    if head[..4] != *b"RIFF" || long(head, 4) as usize != bytes.len() - 8 || head[8..] != *b"WAVE" {
+        return None;
+    }
+    let mut format: Option<&[u8]> = None;
+    loop {
+        let (head, after) = rest.split_at_checked(8)?;
+        let size = long(head, 4) as usize;
+        let (body, after) = after.split_at_checked(size)?;
+        // A body of odd length has a pad byte after it.
+        rest = after.get(size % 2..)?;
+        match &head[..4] {
+            b"data" => return Some((format?.first_chunk()?, body)),
+            b"fmt " => format = format.or(Some(body)),
+            _ => {}
+        }
+    }
+}
+
+/// The rate times 65,536 plus the count of samples written, or the number of the refusal negated.
+pub fn wav_read(bytes: &[u8], samples: &mut [i16]) -> i64 {
+    let Some((format, content)) = chunks(bytes) else {
+        return -11;
+    };
+    if short(format, 0) != 1 || short(format, 2) != 1 || short(format, 14) != 16 {
+        return -12;
+    }
+    if content.len() % 2 != 0 {
+        return -13;
+    }
+    let count = content.len() / 2;
+    let Some(samples) = samples.get_mut(..count) else {
+        return -13;
+    };
+    if count == 0 {
+        return -1;
+    }
+    if count > LONGEST_ROW {
+        return -2;
+    }
+    for (sample, bytes) in samples.iter_mut().zip(content.chunks_exact(2)) {
+        *sample = i16::from_le_bytes([bytes[0], bytes[1]]);
+    }
+    65536 * i64::from(long(format, 4)) + count as i64
+}

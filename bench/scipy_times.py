@@ -1,7 +1,8 @@
 """Measures scipy on the data of data.rs.
 
 'scipy_times.py version' prints the version of scipy. 'scipy_times.py NAME REPETITIONS' prints two times in microseconds: the minimum of one case
-over its repetitions, and what the same call takes on the smallest data, which is nearly all Python's and not scipy's own work.
+over its repetitions, and what the same call takes on the smallest data, which is nearly all Python's and not scipy's own work. For a case of
+which scipy has no such operation it prints '-' twice.
 """
 import sys
 import time
@@ -94,6 +95,9 @@ def least(operation, shape, repetitions):
 def main():
     if sys.argv[1] == "version":
         print(scipy.__version__)
+        return
+    if sys.argv[1] not in CASES:
+        print("- -")
         return
     operation, shape, small = CASES[sys.argv[1]]
     repetitions = int(sys.argv[2])

@@ -4,6 +4,7 @@ What is tested is a program, or the library: the crate harness, built by the kit
 as one test and runs in a process of its own, so that a crash or a call that never returns fails that group only.
 """
 import argparse
+import collections
 import ctypes
 import mmap
 import os
@@ -30,6 +31,7 @@ PARAMETERS = {
     "row_value": SLICE + 3 * SIZE,
     "row_zoom": SLICE + SIZE + SLICE,
     "picture_value": SLICE + 7 * SIZE,
+    "wav_read": 2 * SLICE,
 }
 
 
@@ -46,9 +48,14 @@ class Slice:
         self.length = len(numbers)
         low = -(2 ** (8 * ctypes.sizeof(kind) - 1))
         guard = [low + 12345 + i for i in range(self.GUARD)]
-        self.before = guard + list(numbers) + guard
-        self.memory = (kind * len(self.before))(*self.before)
+        self.memory = self.held(kind, guard, list(numbers))
+        self.before = self.memory[:]
         self.lent = ctypes.c_void_p(ctypes.addressof(self.memory) + self.GUARD * ctypes.sizeof(kind))
+
+    def held(self, kind, guard, numbers):
+        """The numbers in memory, and the guards; of a number too great for its kind the low bits."""
+        together = guard + numbers + guard
+        return (kind * len(together))(*together)
 
     def words(self):
         """How the slice is passed."""
@@ -67,6 +74,22 @@ class Slice:
             place = at - self.GUARD
             where = "" if 0 <= place < self.length else f", which is outside the slice of {self.length},"
             raise Wrong(f"{name}[{place}]{where} is {now[at]} and should be {expected[at]}")
+
+
+class LastSlice(Slice):
+    """A lent slice at the end of memory, with a guard before it: what follows it can be neither read nor written, and a call that does so ends by
+    a signal."""
+
+    def held(self, kind, guard, numbers):
+        together = guard + numbers
+        array = kind * len(together)
+        size = ctypes.sizeof(array)
+        room = -(-size // mmap.PAGESIZE) * mmap.PAGESIZE
+        memory = array.from_buffer(mmap.mmap(-1, room + mmap.PAGESIZE), room - size)
+        memory[:] = together
+        if ctypes.CDLL(None).mprotect(ctypes.c_void_p(ctypes.addressof(memory) + size), ctypes.c_size_t(mmap.PAGESIZE), 0) != 0:
+            raise OSError("a page could not be closed")
+        return memory
 
 
 def filled(count, start):
@@ -100,8 +123,8 @@ class Library:
 
 
 class Tests:
-    """What every group has: what its process says last, and what is printed with the group: its seed, its calls and the greatest distance
-    found."""
+    """What every group has: what its process says last, and what is printed with the group: its seed, its calls, how many of these were accepted
+    where that is counted, and the greatest distance found."""
 
     CALLS = "calls"
 
@@ -110,6 +133,7 @@ class Tests:
         self.in_progress = mmap.mmap(-1, 4096)
         self.seed = None
         self.calls = 0
+        self.met = collections.Counter()
         self.greatest = Fraction(0)
 
     def say(self, case):
@@ -128,10 +152,17 @@ class Tests:
         if distance > limit:
             raise Wrong(f"{what} lies {float(distance)} units from the exact one, more than {limit}")
 
+    def demand_met(self, *outcomes):
+        """The cases were of all these kinds: accepted, or refused with this number."""
+        missing = [outcome for outcome in outcomes if self.met[outcome] == 0]
+        if missing:
+            raise Wrong(f"no case of this group is of the kinds {missing}")
+
     def summary(self):
         seed = f"seed {self.seed}, " if self.seed is not None else ""
         calls = f"{self.calls} {self.CALLS}, " if self.calls > 0 else ""
-        return seed + calls + (f"greatest distance {float(self.greatest):.4f}, " if self.greatest > 0 else "")
+        accepted = f"{self.met['accepted']} accepted, " if self.met["accepted"] > 0 else ""
+        return seed + calls + accepted + (f"greatest distance {float(self.greatest):.4f}, " if self.greatest > 0 else "")
 
 
 class LibraryTests(Tests):
@@ -196,10 +227,21 @@ def run_group(name, group, tests, count):
     count.add(status == 0, f"{name}: passed ({tests.said()}{seconds})" if status == 0 else f"{name}: FAILED ({seconds})")
 
 
+def up_to_date(file):
+    """Whether a file was built after all that it can be built of, sources and kit, was last changed."""
+    if not os.path.exists(file):
+        return False
+    sources = [os.path.join(folder, name) for folder, _, names in os.walk(os.path.join(ROOT, "crates")) for name in names]
+    changed = [os.path.join(ROOT, "crates.txt"), os.path.realpath(shutil.which("rt")), *sources]
+    return all(os.path.getmtime(source) < os.path.getmtime(file) for source in changed)
+
+
 def built(count, command, place):
-    """The file of this tree that a command of the kit builds; None, with a failure counted, if that cannot be done."""
-    done = subprocess.run(command.split(), cwd=ROOT, stdout=subprocess.PIPE, stderr=subprocess.STDOUT, text=True)
+    """The file of this tree that a command of the kit builds, where it is not up to date; None, with a failure counted, if that cannot be done."""
     file = os.path.join(ROOT, place)
+    if up_to_date(file):
+        return file
+    done = subprocess.run(command.split(), cwd=ROOT, stdout=subprocess.PIPE, stderr=subprocess.STDOUT, text=True)
     if done.returncode != 0 or not os.path.exists(file):
         print(done.stdout, end="")
         count.add(False, f"FAILED: '{command}' ended with status {done.returncode}")

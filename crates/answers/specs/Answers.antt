@@ -5,7 +5,7 @@ use Rattle.bspline.specs.PictureLayout as layout
 use Rattle.bspline.specs.Values as values
 use Rattle.answers.specs.declared.Position.{Position}
 use Rattle.answers.specs.declared.Refusal.{Refusal}
-use Rattle.answers.specs.declared.Refusal.the-variants.{EmptyRow, LongRow, BadSide, WrongCount, ShortWork, ShortCoefficients, BadFactor, OffData, ShortValues, BadText}
+use Rattle.answers.specs.declared.Refusal.the-variants.{EmptyRow, LongRow, BadSide, WrongCount, ShortWork, ShortCoefficients, BadFactor, OffData, ShortValues, BadText, BadFile, OtherFormat, UnfitSamples}
 use Rattle.answers.specs.declared.Shape.{Shape}
 use Rattle.answers.specs.declared.Valued.{Valued}
 use Rattle.answers.specs.declared.Valued.the-variants.{Value, Refused as NoValue}
@@ -24,6 +24,9 @@ number BadFactor = 7
 number OffData = 8
 number ShortValues = 9
 number BadText = 10
+number BadFile = 11
+number OtherFormat = 12
+number UnfitSamples = 13
 
 -- what an enum answers
 abbrev pub written : Written → Answer

@@ -19,6 +19,9 @@ pub enum Refusal {
     OffData,
     ShortValues,
     BadText,
+    BadFile,
+    OtherFormat,
+    UnfitSamples,
 }
 
 impl Refusal {
@@ -37,6 +40,9 @@ impl Refusal {
             Refusal::OffData => 8,
             Refusal::ShortValues => 9,
             Refusal::BadText => 10,
+            Refusal::BadFile => 11,
+            Refusal::OtherFormat => 12,
+            Refusal::UnfitSamples => 13,
         }
     }
 

@@ -4,7 +4,8 @@ use mathlib.Core.Path.{_≡_, ap, _∙_}
 use lib.IntN.{ℤ}
 use Rattle.bspline.specs.Outcomes.{Transformed, Evaluated}
 use Rattle.bspline.specs.Refusals.{Answer}
-use Rattle.harness.specs.Codes.{CodedTransform, CodedValues, code, codedTransform, codedValues}
+use Rattle.wavefile.specs.Outcomes.{Read, Answer as Reading}
+use Rattle.harness.specs.Codes.{CodedTransform, CodedValues, CodedRead, code, clipCode, codedTransform, codedValues, codedRead}
 
 pub coded-transform : (a : Answer) {x : ℤ} {C work : List ℤ} {o : Transformed} → x ≡ code a →
     record { answer = a; coefficients = C; work = work } ≡ o → _≡_ {A = CodedTransform} (record { answer = x; coefficients = C; work = work }) (codedTransform o)
@@ -14,3 +15,7 @@ coded-transform a {C = C} {work} e f =
 pub coded-values : (a : Answer) {x : ℤ} {v : List ℤ} {o : Evaluated} → x ≡ code a →
     record { answer = a; values = v } ≡ o → _≡_ {A = CodedValues} (record { answer = x; values = v }) (codedValues o)
 coded-values a {v = v} e f = ap (λ (x : ℤ). record { answer = x; values = v }) e ∙ ap codedValues f
+
+pub coded-read : (a : Reading) {x : ℤ} {s : List ℤ} {o : Read} → x ≡ clipCode a →
+    record { answer = a; samples = s } ≡ o → _≡_ {A = CodedRead} (record { answer = x; samples = s }) (codedRead o)
+coded-read a {s = s} e f = ap (λ (x : ℤ). record { answer = x; samples = s }) e ∙ ap codedRead f

@@ -1,9 +1,10 @@
 -- Answers as signed numbers, as the functions for C return them, beside the buffers that they leave. Assumes nothing.
 use mathlib.Core.List.{List}
-use Prim.Native.Nat.{_+_, _-_, _^_, min}
+use Prim.Native.Nat.{_+_, _-_, _*_, _^_, min}
 use lib.IntN.{ℤ, pos, negℤ}
 use Rattle.bspline.specs.Outcomes.{Transformed, Evaluated}
 use Rattle.bspline.specs.Refusals.{Answer, count, value, refusal}
+use Rattle.wavefile.specs.Outcomes.{Read, Answer as Reading, clip, refusal as unread}
 
 -- a count as itself, as far as 64 bits with a sign go; a refusal's number negated
 abbrev pub code : Answer → ℤ
@@ -16,6 +17,11 @@ abbrev pub valueCode : Answer → ℤ
 valueCode (count n) = pos n
 valueCode (value v) = v
 valueCode (refusal k) = pos (2 ^ 32 + k)
+
+-- a clip as its rate and, in the low 16 bits, the count of its samples; a refusal's number negated
+abbrev pub clipCode : Reading → ℤ
+clipCode (clip n r) = pos (r * 2 ^ 16 + min n (2 ^ 16 - 1))
+clipCode (unread k) = negℤ (pos k)
 
 -- the outcome of a transform, with the code of its answer
 pub record CodedTransform : Type 0 where
@@ -33,3 +39,11 @@ pub record CodedValues : Type 0 where
 
 abbrev pub codedValues : Evaluated → CodedValues
 codedValues o = record { answer = code (o .answer); values = o .values }
+
+-- the outcome of reading a file, with the code of its answer
+pub record CodedRead : Type 0 where
+  pub answer : ℤ
+  pub samples : List ℤ
+
+abbrev pub codedRead : Read → CodedRead
+codedRead o = record { answer = clipCode (o .answer); samples = o .samples }

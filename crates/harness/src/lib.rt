@@ -1,16 +1,20 @@
 // The operations with the C calling convention, for tests and benchmarks in other languages. No part of the library: nothing in the
 // repository but tests/ and bench/ uses it.
 ghost use mathlib.Core.Path.{_≡_};
-ghost use Prim.Native.Nat.{_-_, _^_, min};
-ghost use lib.IntN.{pos};
+ghost use Prim.Native.Nat.{_+_, _-_, _*_, _^_, min};
+ghost use lib.IntN.{pos, negℤ};
 ghost use Rattle.bspline.specs.Outcomes.{rowTransform, pictureTransform, rowZoom, rowValue, pictureValue};
 ghost use Rattle.bspline.specs.PictureLayout.{sides};
-ghost use Rattle.answers.specs.Answers.{valued, written};
-ghost use Rattle.harness.specs.Codes.{code, valueCode, codedTransform, codedValues};
+ghost use Rattle.answers.specs.Answers.{number, valued, written};
+ghost use Rattle.wavefile.specs.Outcomes.{wavRead};
+ghost use Rattle.wav.specs.Answers.{answered};
+ghost use Rattle.harness.specs.Codes.{code, valueCode, clipCode, codedTransform, codedValues, codedRead};
 use spline::Position;
+use spline::Refusal;
 use spline::Shape;
 use spline::Valued;
 use spline::Written;
+use wav::Reading;
 
 // A count as a signed number. No count is so great that it must be cut.
 fn count_code(n: usize) -> i64
@@ -23,13 +27,20 @@ fn count_code(n: usize) -> i64
     }
 }
 
+// A refusal's number negated.
+fn refusal_code(r: Refusal) -> i64
+    ensures { λ x. ⌜ x ≡ negℤ (pos (number r)) ⌝ }
+{
+    -(r.byte() as i64)
+}
+
 // A count as itself, or a refusal's number negated.
 fn written_code(w: Written) -> i64
     ensures { λ x. ⌜ x ≡ code (written w) ⌝ }
 {
     match w {
         Written::Count(n) => count_code(n),
-        Written::Refused(r) => -(r.byte() as i64),
+        Written::Refused(r) => refusal_code(r),
     }
 }
 
@@ -40,6 +51,24 @@ fn valued_code(v: Valued) -> i64
     match v {
         Valued::Value(x) => x as i64,
         Valued::Refused(r) => 4294967296 + r.byte() as i64,
+    }
+}
+
+// A clip's rate and, in the low 16 bits, the count of its samples. No count is so great that it must be cut.
+fn clip_code(count: usize, rate: u32) -> i64
+    ensures { λ x. ⌜ x ≡ pos (rate * 2 ^ 16 + min count (2 ^ 16 - 1)) ⌝ }
+{
+    let low = if count <= 65535 { count } else { 65535 };
+    (rate as usize * 65536 + low) as i64
+}
+
+// The code of a clip, or a refusal's number negated.
+fn reading_code(r: Reading) -> i64
+    ensures { λ x. ⌜ x ≡ clipCode (answered r) ⌝ }
+{
+    match r {
+        Reading::Clip { count, rate } => clip_code(count, rate),
+        Reading::Refused(r) => refusal_code(r),
     }
 }
 
@@ -108,4 +137,12 @@ pub extern "C" fn harness_picture_value(
     let x = Position { k: kx, j: jx };
     let y = Position { k: ky, j: jy };
     valued_code(spline::picture::value(coefficients, sides, x, y, m))
+}
+
+#[no_mangle]
+pub extern "C" fn harness_wav_read(bytes: &[u8], samples: &mut [i16]) -> i64
+    ensures { λ r. ⌜
+        record { answer = r; samples = now (samples .exit) } ≡ codedRead (wavRead (now (bytes .entry)) (now (samples .entry))) ⌝ }
+{
+    reading_code(wav::read(bytes, samples))
 }

@@ -12,4 +12,5 @@ pub mod Division
 pub mod Rounding
 pub mod Machine
 pub mod Words
+pub mod Signs
 pub mod Examples

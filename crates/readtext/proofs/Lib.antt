@@ -1,4 +1,3 @@
 -- The laws from which the functions of `readtext` are proved.
 pub mod Digits
-pub mod Signs
 pub mod Texts

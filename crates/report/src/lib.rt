@@ -23,6 +23,25 @@ pub fn sample(words: &[u8], s: i16) {
     signed(words, s as i32)
 }
 
+// What a buffer of values holds where none was written. No value of the examples is 1.
+pub const UNSET: i32 = 1;
+
+// A value if it was written.
+fn listed(v: i32) {
+    if v != UNSET {
+        signed(b", ", v);
+    }
+}
+
+// The values that were written.
+pub fn list(values: &[i32]) {
+    let mut i = 0;
+    while i < values.len() {
+        listed(values[i]);
+        i += 1;
+    }
+}
+
 // A position at a factor after words.
 pub fn place(words: &[u8], p: Position, m: usize) {
     number(words, p.k);

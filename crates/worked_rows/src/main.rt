@@ -1,5 +1,6 @@
 // Runs the worked examples of rows through the operations and prints what they answer. The file stdout has what is right. Where only lengths
 // matter the row is of zeros.
+use report::UNSET;
 use spline::Position;
 use spline::limits::GREATEST_FACTOR;
 use spline::limits::LONGEST_ROW;
@@ -16,9 +17,6 @@ const MUCH_WORK: usize = TOO_LONG + MARGINS;
 
 // The values of three samples at the greatest factor.
 const VALUES_OF_THREE: usize = 2 * GREATEST_FACTOR + 1;
-
-// What a buffer holds where no value was written. No value of the examples is 1.
-const UNSET: i32 = 1;
 
 // So many samples, and so many words of work.
 fn transform(n: usize, work: usize) {
@@ -42,21 +40,6 @@ fn three(end: i16, middle: i16) -> [i32; 3] {
     coefficients
 }
 
-// Prints a value if it was written.
-fn listed(v: i32) {
-    if v != UNSET {
-        report::signed(b", ", v);
-    }
-}
-
-fn list(values: &[i32]) {
-    let mut i = 0;
-    while i < values.len() {
-        listed(values[i]);
-        i += 1;
-    }
-}
-
 // The values of a row of three at a factor.
 fn zoom_three(end: i16, middle: i16, m: usize) {
     report::sample(b"row of ", end);
@@ -64,7 +47,7 @@ fn zoom_three(end: i16, middle: i16, m: usize) {
     report::number(b" at factor ", m);
     let mut values = [UNSET; VALUES_OF_THREE];
     let answer = spline::row::zoom(&three(end, middle), m, &mut values);
-    list(&values);
+    report::list(&values);
     report::written(answer)
 }
 

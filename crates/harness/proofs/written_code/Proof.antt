@@ -1,15 +1,10 @@
--- `harness::written_code` meets its contract: the code of a count is that of `count_code`, and a byte is cast and negated without loss.
+-- `harness::written_code` meets its contract: the code of a count is that of `count_code`, and of a refusal that of `refusal_code`.
 -- Assumes nothing.
-use mathlib.Core.Path.{_≡_, sym, ap, _∙_}
-use native.Mathlib.Omega.{arith}
+use mathlib.Core.Path.{sym, ap, _∙_}
 use borrow.Author.Needs.{needs, sfits-of}
-use lib.Dec.{lit<}
-use lib.IntN.{pos, negℤ, _-ℤ_}
 use mir.Facts.{toZ-ofZ}
 use mir.Syntax.{w64}
 use mir.Val.{SFits}
-use Rattle.integers.proofs.Linear.{reify, show}
-use Rattle.integers.proofs.Words.{Word, counted, literal, minus}
 use Rattle.answers.specs.Answers.{written}
 use Rattle.harness.specs.Codes.{code}
 use Rattle.harness.proofs.written_code.Statement.{statement}
@@ -24,21 +19,8 @@ count-code-requires c κs = search needs
 enum-known-w-2 : tie.Need-enum-known-w-2
 enum-known-w-2 c = search needs
 
-byte-requires : tie.Need-byte-requires
-byte-requires c κs = search needs
-
-module _ (c : tie.After-byte) where
-  abbrev negated : Word w64
-  negated = minus (literal 0 (lit< tt)) (counted (c .byte .result) 255 (omega arith) (lit< tt)) (lit< tt)
-
-  from-zero : pos 0 -ℤ pos (c .byte .result) ≡ negℤ (pos (c .byte .result))
-  from-zero = show (simp reify tt) (omega arith)
-
-cast-result : tie.Need-cast-result
-cast-result c = search needs
-
-sub-result : tie.Need-sub-result
-sub-result c = negated c .fits
+refusal-code-requires : tie.Need-refusal-code-requires
+refusal-code-requires c κs = search needs
 
 returns : tie.Need-returns
 returns c =
@@ -47,10 +29,8 @@ returns c =
 
 returns-2 : tie.Need-returns-2
 returns-2 c =
-    negated c .means
-    ∙ from-zero c
-    ∙ ap (λ n. negℤ (pos n)) (c .byte .ensures)
-    ∙ sym (ap (λ w. code (written w)) (c .before .before .w2 .given .1))
+    let f : SFits w64 (c .refusal-code .result) = sfits-of (c .refusal-code .ok) in
+    toZ-ofZ f ∙ c .refusal-code .ensures ∙ sym (ap (λ w. code (written w)) (c .before .before .w2 .given .1))
 
 pub written-code-spec : {M : Type 1} → statement M
 written-code-spec =
@@ -59,8 +39,6 @@ written-code-spec =
     enum-known-w
     count-code-requires
     enum-known-w-2
-    byte-requires
-    cast-result
-    sub-result
+    refusal-code-requires
     returns
     returns-2)

@@ -10,7 +10,7 @@ use borrow.Author.Tests.{le-leb, lt-leb}
 use mir.Facts.{toZ-pos}
 use mir.Syntax.{w16}
 use Rattle.readtext.specs.Numbers.{valueAfter, wellFormed, inRange, signedNumber}
-use Rattle.readtext.proofs.Signs.{minus-fits, minus-fits-16, minus-16}
+use Rattle.integers.proofs.Signs.{minus-fits, minus-fits-16, minus-16}
 use Rattle.readtext.proofs.line.signed_number.Statement.{statement}
 use Rattle.readtext.proofs.line.signed_number.Tie as tie
 

@@ -1,10 +1,10 @@
--- `worked_rows::list` returns. Its contract says nothing, and the loop's test alone shows that a value is in the slice. The measure is how many
+-- `report::list` returns. Its contract says nothing, and the loop's test alone shows that a value is in the slice. The measure is how many
 -- values are left. Assumes nothing.
 use Prim.Native.Nat.{_-_}
 use borrow.Author.Needs.{needs}
 use lib.ListN.{length}
-use Rattle.worked_rows.proofs.list.Statement.{statement}
-use Rattle.worked_rows.proofs.list.Tie as tie
+use Rattle.report.proofs.list.Statement.{statement}
+use Rattle.report.proofs.list.Tie as tie
 
 abbrev Inv-loop : tie.InvT-loop
 Inv-loop values i₀ i = Unit {0}

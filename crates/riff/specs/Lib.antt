@@ -1,0 +1,2 @@
+-- The enums of `riff`, read as what `wavefile` defines.
+pub mod Places

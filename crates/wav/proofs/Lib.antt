@@ -1,0 +1,2 @@
+-- The laws from which the functions of `wav` are proved.
+pub mod Clips

@@ -1,0 +1,2 @@
+-- The enum of `wav`, read as what `wavefile` defines.
+pub mod Answers
