@@ -1,7 +1,10 @@
 -- From an operation's own clause to that of its function for C: the answer is replaced by its code. Assumes nothing.
 use mathlib.Core.List.{List}
-use mathlib.Core.Path.{_≡_, ap, _∙_}
+use mathlib.Core.Path.{_≡_, sym, ap, _∙_}
 use lib.IntN.{ℤ}
+use mir.Facts.{toZ-ofZ}
+use mir.Syntax.{w64}
+use mir.Val.{SFits, toZ, ofZ}
 use Rattle.bspline.specs.Outcomes.{Transformed, Evaluated}
 use Rattle.bspline.specs.Refusals.{Answer}
 use Rattle.wavefile.specs.Outcomes.{Read, Answer as Reading}
@@ -19,3 +22,7 @@ coded-values a {v = v} e f = ap (λ (x : ℤ). record { answer = x; values = v }
 pub coded-read : (a : Reading) {x : ℤ} {s : List ℤ} {o : Read} → x ≡ clipCode a →
     record { answer = a; samples = s } ≡ o → _≡_ {A = CodedRead} (record { answer = x; samples = s }) (codedRead o)
 coded-read a {s = s} e f = ap (λ (x : ℤ). record { answer = x; samples = s }) e ∙ ap codedRead f
+
+-- a number that is the code of one case of an enum, answered where the enum is that case
+pub case-code : {A : Type 0} (coded : A → ℤ) {a b : A} {x : ℤ} → SFits w64 x → x ≡ coded b → a ≡ b → toZ w64 (ofZ w64 x) ≡ coded a
+case-code coded f e g = toZ-ofZ f ∙ e ∙ sym (ap coded g)

@@ -1,8 +1,8 @@
 -- Chunks by the places at which they stand. Assumes nothing.
-use mathlib.Core.Bool.{Bool, true, false, cond}
+use mathlib.Core.Bool.{true, false}
 use mathlib.Core.List.{List}
-use mathlib.Core.Option.{none, some, Option·none-ne-some, Option·some-ne-none, Option·some-injective}
-use mathlib.Core.Path.{_≡_, refl, sym, ap, _∙_}
+use mathlib.Core.Option.{none}
+use mathlib.Core.Path.{_≡_, refl, ap, _∙_}
 use Prim.Native.Nat.{ℕ, zero, suc, _+_, _-_, _≤_, _<_}
 use native.Mathlib.Nat.{add-zero}
 use native.Mathlib.Omega.{arith}
@@ -12,7 +12,7 @@ use lib.Seq.{length-take-le}
 use Rattle.wavefile.specs.Bytes.{part, little, number, same, formatName}
 use Rattle.wavefile.specs.Chunks.{named, size, body, padded, whole, kept}
 use Rattle.wavefile.proofs.Parts.{part-of-drop}
-use Rattle.riff.specs.Places.{wholeSize, formatAt, WholeChunk, WholeFormat}
+use Rattle.riff.specs.Places.{formatAt, WholeChunk, WholeFormat}
 
 -- ---- the name and the size of the chunk at a place
 pub name-at : (at : ℕ) (name l : List ℕ) → named name (drop at l) ≡ same (part at 4 l) name
@@ -23,26 +23,11 @@ size-at at l = ap little (part-of-drop at 4 4 l)
 
 -- ---- whether it is whole
 module _ (at n : ℕ) (l : List ℕ) (e : size (drop at l) ≡ n) where
-  pub cut-chunk : length l - at < 8 + padded n → none ≡ wholeSize (drop at l)
+  pub cut-chunk : length l - at < 8 + padded n → whole (drop at l) ≡ false
   cut-chunk h = rw (e, lt-leb (8 + padded n) (length (drop at l)) (rw (length-drop at l) h))
 
-  pub whole-chunk : 8 + padded n ≤ length l - at → some n ≡ wholeSize (drop at l)
-  whole-chunk h = rw (e, le-leb (8 + padded n) (length (drop at l)) (rw (length-drop at l) h))
-
--- and the same from what the definition says
-cut-is : (b : Bool) (n : ℕ) → none ≡ cond b (some n) none → b ≡ false
-cut-is true n e = absurd (Option·none-ne-some n e)
-cut-is false n e = refl
-
-whole-is : (b : Bool) (n m : ℕ) → some n ≡ cond b (some m) none → (b ≡ true) × (m ≡ n)
-whole-is true n m e = (refl, sym (Option·some-injective n m e))
-whole-is false n m e = absurd (Option·some-ne-none n e)
-
-pub not-whole : (l : List ℕ) → none ≡ wholeSize l → whole l ≡ false
-not-whole l e = cut-is (whole l) (size l) e
-
-pub is-whole : (l : List ℕ) {n : ℕ} → some n ≡ wholeSize l → (whole l ≡ true) × (size l ≡ n)
-is-whole l {n} e = whole-is (whole l) n (size l) e
+  pub whole-chunk : 8 + padded n ≤ length l - at → (whole (drop at l) ≡ true) × (size (drop at l) ≡ n)
+  whole-chunk h = (rw (e, le-leb (8 + padded n) (length (drop at l)) (rw (length-drop at l) h)), e)
 
 -- ---- the first "fmt " chunk stays, and is the one at a place if there was none
 pub kept-later : (format : ℕ) (l r : List ℕ) → (format ≡ 0 → ⊥) → formatAt l format ≡ kept (formatAt l format) r

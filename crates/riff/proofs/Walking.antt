@@ -8,10 +8,10 @@ use native.Mathlib.Omega.{arith}
 use lib.ListN.{length, drop, drop-of-length-le}
 use lib.Seq.{drop-drop}
 use Rattle.wavefile.specs.Bytes.{part, dataName}
-use Rattle.wavefile.specs.Chunks.{named, size, padded, kept, walk, found}
+use Rattle.wavefile.specs.Chunks.{named, size, padded, whole, kept, walk, found}
 use Rattle.wavefile.proofs.Walks.{walk-cut, walk-data, walk-on}
-use Rattle.riff.specs.Places.{wholeSize, formatAt, WholeChunk, WholeFormat, WalkedTo}
-use Rattle.riff.proofs.Places.{not-whole, is-whole, body-at, chunk-inside}
+use Rattle.riff.specs.Places.{formatAt, WholeChunk, WholeFormat, WalkedTo}
+use Rattle.riff.proofs.Places.{body-at, chunk-inside}
 
 -- all chunks are those from a place on, with the format at another
 pub record Walking (l : List ℕ) (at format : ℕ) : Type 0 where
@@ -24,21 +24,20 @@ unfolding found
 walking-start l = record { begun = omega arith; rest = refl; kept-format = tt }
 
 module _ {l : List ℕ} {at format : ℕ} (w : Walking l at format) where
-  -- at the end, or at a chunk that is not whole, there is no "data"
-  pub walking-end : length l ≤ at → found l ≡ none
-  walking-end h = w .rest ∙ walk-cut (formatAt l format) (drop at l) (rw (drop-of-length-le l h))
+  -- at a chunk that is not whole, or at the end, there is no "data"
+  pub walking-cut : whole (drop at l) ≡ false → found l ≡ none
+  walking-cut e = w .rest ∙ walk-cut (formatAt l format) (drop at l) e
 
-  pub walking-cut : none ≡ wholeSize (drop at l) → found l ≡ none
-  walking-cut e = w .rest ∙ walk-cut (formatAt l format) (drop at l) (not-whole (drop at l) e)
+  pub walking-end : length l ≤ at → found l ≡ none
+  walking-end h = walking-cut (rw (drop-of-length-le l h))
 
   -- at a whole chunk of n bytes
-  module _ {n : ℕ} (e : some n ≡ wholeSize (drop at l)) where
+  module _ {n : ℕ} (s : (whole (drop at l) ≡ true) × (size (drop at l) ≡ n)) where
     pub walking-whole : WholeChunk l at
-    walking-whole = chunk-inside at l (is-whole (drop at l) e .0)
+    walking-whole = chunk-inside at l (s .0)
 
     pub walking-data : named dataName (drop at l) ≡ true → WalkedTo l format (at + 8) n
     walking-data d =
-        let s = is-whole (drop at l) e in
         record {
           chunks =
               w .rest ∙ walk-data (formatAt l format) (drop at l) (s .0) d
@@ -49,7 +48,7 @@ module _ {l : List ℕ} {at format : ℕ} (w : Walking l at format) where
 
     -- where the next one begins
     next-at : at + (8 + padded (size (drop at l))) ≡ at + (8 + n + n % 2)
-    next-at = ap (λ i. at + (8 + padded i)) (is-whole (drop at l) e .1) ∙ omega arith
+    next-at = ap (λ i. at + (8 + padded i)) (s .1) ∙ omega arith
 
     pub walking-next : at + (8 + n + n % 2) ≤ length l
     walking-next = omega (arith, next-at, walking-whole .inside)
@@ -60,7 +59,7 @@ module _ {l : List ℕ} {at format : ℕ} (w : Walking l at format) where
         record {
           begun = omega (arith, w .begun);
           rest =
-              w .rest ∙ walk-on (formatAt l format) (drop at l) (is-whole (drop at l) e .0) d
+              w .rest ∙ walk-on (formatAt l format) (drop at l) (s .0) d
               ∙ ap₂ (λ f r. walk f 0 r) (sym k) (drop-drop (8 + padded (size (drop at l))) at l ∙ ap (λ i. drop i l) next-at);
           kept-format = f;
         }

@@ -1,5 +1,5 @@
 -- What the functions of `riff` find in a file, by places of it. Assumes nothing.
-use mathlib.Core.Bool.{true, false, cond}
+use mathlib.Core.Bool.{true, false}
 use mathlib.Core.List.{List}
 use mathlib.Core.Option.{Option, none, some}
 use mathlib.Core.Path.{_≡_}
@@ -12,13 +12,10 @@ use Rattle.riff.specs.declared.chunks.Chunk.the-variants.{Whole, Cut}
 use Rattle.riff.specs.declared.chunks.Places.{Places}
 use Rattle.riff.specs.declared.chunks.Places.the-variants.{Chunks, Nothing}
 
--- the size of the chunk that bytes begin with, if it is whole
-abbrev pub wholeSize : List ℕ → Option ℕ
-wholeSize bytes = cond (whole bytes) (some (size bytes)) none
-
-abbrev pub sizeRead : Chunk → Option ℕ
-sizeRead (Whole n) = some n
-sizeRead Cut = none
+-- the chunk that bytes begin with is whole and of this size, or it is not whole
+abbrev pub Begins : List ℕ → Chunk → Type 0
+Begins bytes (Whole n) = (whole bytes ≡ true) × (size bytes ≡ n)
+Begins bytes Cut = whole bytes ≡ false
 
 -- the body of the "fmt " chunk at a place; none at 0, where the header stands
 abbrev pub formatAt : List ℕ → ℕ → Option (List ℕ)

@@ -3,7 +3,7 @@ ghost use mathlib.Core.Path.{_≡_};
 ghost use Prim.Native.Nat.{_≤_, _<_};
 ghost use lib.ListN.{length, drop};
 ghost use Rattle.wavefile.specs.Chunks.{headed as Chunks·headed, kept};
-ghost use Rattle.riff.specs.Places.{sizeRead, wholeSize, formatAt, WholeChunk, WholeFormat, Walked, Finds};
+ghost use Rattle.riff.specs.Places.{Begins, formatAt, WholeChunk, WholeFormat, Walked, Finds};
 use crate::fields::four_bytes;
 use crate::fields::named;
 
@@ -49,7 +49,7 @@ fn headed(bytes: &[u8]) -> bool
 // The chunk at a place. No sum is made that a size could make too great.
 fn chunk_at(bytes: &[u8], at: usize) -> Chunk
     requires { ⌜ at ≤ length (now bytes) ⌝ }
-    ensures { λ r. ⌜ sizeRead r ≡ wholeSize (drop at (now (bytes .entry))) ⌝ }
+    ensures { λ r. ⌜ Begins (drop at (now (bytes .entry))) r ⌝ }
 {
     let room = bytes.len() - at;
     if room < BEFORE_BODY {

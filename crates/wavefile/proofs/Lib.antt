@@ -6,6 +6,7 @@ pub mod Samples
 pub mod Alike
 pub mod WrittenChunks
 pub mod Outcomes
+pub mod Clips
 pub mod Unread
 pub mod Skipped
 pub mod ReadBack

@@ -2,23 +2,23 @@
 use mathlib.Core.Bool.{true}
 use mathlib.Core.List.{List, [], _∷_, _++_}
 use mathlib.Core.Option.{none, some}
-use mathlib.Core.Path.{_≡_, refl, ap, ap₂, _∙_}
+use mathlib.Core.Path.{_≡_, refl, sym, ap, ap₂, _∙_}
 use mathlib.Mathlib.Data.List.Basic.{forall-cons}
 use mathlib.Mathlib.Data.List.Defs.{Forall}
 use Prim.Native.Nat.{ℕ, suc, _+_, _-_, _*_, _/_, _%_, _^_, _≤_, _<_}
 use native.Mathlib.Omega.{arith}
-use borrow.Author.Tests.{lt-ltb, le-ltb, ne-eqb}
-use lib.Dec.{leb→le, ltb}
+use borrow.Author.Tests.{lt-ltb, le-ltb}
+use lib.Dec.{leb→le}
 use lib.IntN.{ℤ, pos, negsuc}
 use lib.ListN.{length, length-append}
 use Rattle.bspline.specs.Limits.{longestRow}
 use Rattle.bspline.specs.Outcomes.{overwrite}
-use Rattle.bspline.specs.Refusals.{_when_, refusal-1, refusal-2, judged}
-use Rattle.wavefile.specs.Bytes.{little, formatName}
-use Rattle.wavefile.specs.Chunks.{headed, found}
-use Rattle.wavefile.specs.Samples.{signed, samples, sampleCount}
-use Rattle.wavefile.specs.Outcomes.{Read, clip, refusal, wavRead}
-use Rattle.wavefile.specs.Writing.{littleBytes, Writable, chunkBytes, fileOf, plainFormat, Sample, unsigned, sampleBytes, formatChunk, dataChunk, written}
+use Rattle.wavefile.specs.Bytes.{formatName}
+use Rattle.wavefile.specs.Chunks.{headed, found, formatOf, contentOf}
+use Rattle.wavefile.specs.Samples.{signed, samples}
+use Rattle.wavefile.specs.Outcomes.{clip, refusal, wavRead}
+use Rattle.wavefile.specs.Writing.{Writable, chunkBytes, fileOf, plainFormat, Sample, unsigned, sampleBytes, formatChunk, dataChunk, written}
+use Rattle.wavefile.proofs.Clips.{Legal, short-buffer, many-samples, read-clip}
 use Rattle.wavefile.proofs.Outcomes.{file-headed, file-found}
 use Rattle.wavefile.proofs.WrittenChunks.{little-of-bytes, name-written, body-written, length-written, walk-past, walk-to}
 
@@ -88,40 +88,32 @@ module _ (r : ℕ) (s : List ℤ) where
         ∙ rw (name-written (formatChunk r) format-writable formatName, body-written (formatChunk r) format-writable)
         (walk-to (dataChunk s) data-writable (some (plainFormat r)) refl)
 
-    -- what is tested of it
-    abbrev tested : List ℤ → Read
-    tested buffer =
-        judged ((13 when ltb (length buffer) (length s)) ∷ refusal-1 (length s) ∷ refusal-2 longestRow (length s) ∷ [])
-        (λ k. record { answer = refusal k; samples = buffer })
-        (record { answer = clip (length s) (little (littleBytes 4 r)); samples = overwrite (samples (sampleBytes s)) buffer })
-
-    outcome : (buffer : List ℤ) → wavRead (written r s) buffer ≡ tested buffer
-    unfolding wavRead
-    outcome buffer =
-        let size = sample-bytes-length s in
-        let count : sampleCount (sampleBytes s) ≡ length s = omega arith in
-        rw (written-headed, written-found, count, ne-eqb (length (sampleBytes s) % 2) 1 (λ e. omega arith))
+    -- and it is legal, with that format and those data
+    written-legal : Legal (written r s) (plainFormat r) (sampleBytes s) (2 * length s)
+    written-legal =
+        record {
+          accepted = rw (written-headed, written-found);
+          format = ap formatOf written-found;
+          content = ap contentOf written-found;
+          count = sample-bytes-length s;
+        }
 
 -- 1 to 4,096 samples of 16 bits, at a rate that four bytes hold, come back with their count and rate into a buffer that they fit
 pub read-back : (r : ℕ) (s buffer : List ℤ) → r < 2 ^ 32 → Forall Sample s → 1 ≤ length s → length s ≤ longestRow → length s ≤ length buffer →
     wavRead (written r s) buffer ≡ record { answer = clip (length s) r; samples = overwrite s buffer }
 read-back r s buffer small-rate fits some-samples few room =
-    rw (
-      outcome r s (omega arith) buffer,
-      le-ltb (length buffer) (length s) room,
-      ne-eqb (length s) 0 (λ e. omega arith),
-      le-ltb longestRow (length s) few,
-      little-of-bytes 4 r small-rate,
-      samples-back s fits,
-    )
+    let half : 2 * length s / 2 ≡ length s = omega arith in
+    sym
+    (read-clip (written r s) buffer (written-legal r s (omega arith)) refl (λ e. omega arith) (omega arith) (λ e. omega arith) (omega arith))
+    ∙ rw (half, little-of-bytes 4 r small-rate, samples-back s fits)
 
 -- if the buffer is too short they are refused 13, however many they are
 pub no-room-refused : (r : ℕ) (s buffer : List ℤ) → 36 + 2 * length s < 2 ^ 32 → length buffer < length s →
     wavRead (written r s) buffer ≡ record { answer = refusal 13; samples = buffer }
-no-room-refused r s buffer small short = rw (outcome r s small buffer, lt-ltb (length buffer) (length s) short)
+no-room-refused r s buffer small short = sym (short-buffer (written r s) buffer (written-legal r s small) refl (λ e. omega arith) (omega arith))
 
 -- more than 4,096 are refused 2 if they fit
 pub many-refused : (r : ℕ) (s buffer : List ℤ) → 36 + 2 * length s < 2 ^ 32 → longestRow < length s → length s ≤ length buffer →
     wavRead (written r s) buffer ≡ record { answer = refusal 2; samples = buffer }
 many-refused r s buffer small many room =
-    rw (outcome r s small buffer, le-ltb (length buffer) (length s) room, ne-eqb (length s) 0 (λ e. omega arith), lt-ltb longestRow (length s) many)
+    sym (many-samples (written r s) buffer (written-legal r s small) refl (λ e. omega arith) (omega arith) (λ e. omega arith) (omega arith))

@@ -13,9 +13,11 @@ use lib.Seq.{length-take-le}
 use Rattle.wavefile.specs.Chunks.{body}
 use Rattle.wavefile.specs.Formats.{plain}
 use Rattle.wavefile.specs.Outcomes.{clip}
+use Rattle.wavefile.specs.Bytes.{part}
 use Rattle.wavefile.specs.Samples.{samples}
+use Rattle.wavefile.proofs.Clips.{Legal, bad-file, other-format, odd-length, short-buffer, no-samples, many-samples, read-clip}
 use Rattle.riff.specs.Places.{Finds, FoundAt}
-use Rattle.wav.proofs.Clips.{bad-file, other-format, odd-length, short-samples, no-samples, many-samples, read-clip, content-lent, lent-lengths}
+use Rattle.wav.proofs.Lending.{legal-file, content-lent, lent-lengths}
 use Rattle.wav.proofs.read.Statement.{statement}
 use Rattle.wav.proofs.read.Tie as tie
 
@@ -48,10 +50,13 @@ module _ (c : tie.After-known-told) where
   places : FoundAt bytes format content n
   places = subst (Finds bytes) (c .before .found .given .1) (c .before .before .before .find .ensures)
 
+  file : Legal bytes (body (drop format bytes)) (part content n bytes) n
+  file = legal-file places
+
 returns-2 : tie.Need-returns-2
 returns-2 c =
     let k = c .before .before in
-    other-format (bytes k) (buffer k) (places k) (sym (c .before .plain .ensures) ∙ not-true (c .before .plain .result) (c .if1 .taken))
+    other-format (bytes k) (buffer k) (file k) (sym (c .before .plain .ensures) ∙ not-true (c .before .plain .result) (c .if1 .taken))
 
 -- of the right format
 module _ (c : tie.Else1) where
@@ -62,25 +67,25 @@ module _ (c : tie.Else1) where
   plain-format = sym (c .before .plain .ensures) ∙ not-false (c .before .plain .result) (c .if1 .left)
 
 returns-3 : tie.Need-returns-3
-returns-3 c = let p = c .before in let k = known p in odd-length (bytes k) (buffer k) (places k) (plain-format p) (c .if2 .taken)
+returns-3 c = let p = c .before in let k = known p in odd-length (bytes k) (buffer k) (file k) (plain-format p) (c .if2 .taken)
 
 returns-4 : tie.Need-returns-4
 returns-4 c =
     let p = c .before .before in
     let k = known p in
-    short-samples (bytes k) (buffer k) (places k) (plain-format p) (c .before .if2 .left) (c .if3 .taken)
+    short-buffer (bytes k) (buffer k) (file k) (plain-format p) (c .before .if2 .left) (c .if3 .taken)
 
 returns-5 : tie.Need-returns-5
 returns-5 c =
     let p = c .before .before .before in
     let k = known p in
-    no-samples (bytes k) (buffer k) (places k) (plain-format p) (c .before .before .if2 .left) (c .before .if3 .left) (c .if4 .taken)
+    no-samples (bytes k) (buffer k) (file k) (plain-format p) (c .before .before .if2 .left) (c .before .if3 .left) (c .if4 .taken)
 
 returns-6 : tie.Need-returns-6
 returns-6 c =
     let p = c .before .before .before .before in
     let k = known p in
-    many-samples (bytes k) (buffer k) (places k) (plain-format p) (c .before .before .before .if2 .left) (c .before .before .if3 .left) (c .before .if4 .left)
+    many-samples (bytes k) (buffer k) (file k) (plain-format p) (c .before .before .before .if2 .left) (c .before .before .if3 .left) (c .before .if4 .left)
     (c .if5 .taken)
 
 -- a clip that is accepted
@@ -93,7 +98,7 @@ fill-requires c κs =
     let e = c .before .before in
     let k = accepted e in
     let fits = e .before .before .if3 .left in (
-      lent-lengths (bytes k) (buffer k) (places k) (plain-format (e .before .before .before .before)) (e .before .before .before .if2 .left) fits,
+      lent-lengths (places k) (buffer k) (e .before .before .before .if2 .left) fits,
       omega (arith, length-take-le (n k / 2) (buffer k) fits, e .if5 .left),
     )
 
@@ -103,8 +108,8 @@ returns-7 c =
     let p = e .before .before .before .before in
     let k = accepted e in
     ap₂ (λ r s. record { answer = clip (n k / 2) r; samples = s ++ drop (n k / 2) (buffer k) }) (c .rate .ensures)
-    (c .before .before .fill .ensures ∙ ap samples (content-lent (bytes k) (buffer k) (places k)))
-    ∙ read-clip (bytes k) (buffer k) (places k) (plain-format p) (e .before .before .before .if2 .left) (e .before .before .if3 .left) (e .before .if4 .left)
+    (c .before .before .fill .ensures ∙ ap samples (content-lent (places k)))
+    ∙ read-clip (bytes k) (buffer k) (file k) (plain-format p) (e .before .before .before .if2 .left) (e .before .before .if3 .left) (e .before .if4 .left)
     (e .if5 .left)
 
 pub read-spec : {M : Type 1} → statement M

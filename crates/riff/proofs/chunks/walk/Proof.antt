@@ -1,13 +1,14 @@
 -- `riff::chunks::walk` meets its contract. The invariant: all chunks are those from the place on, with the format kept so far. The measure is what is
 -- left. Assumes nothing.
+use mathlib.Core.Bool.{true}
 use mathlib.Core.List.{List}
-use mathlib.Core.Option.{some}
-use mathlib.Core.Path.{_≡_, sym, ap, _∙_}
+use mathlib.Core.Path.{_≡_, sym, subst, _∙_}
 use Prim.Native.Nat.{ℕ, _+_, _-_, _%_, _≤_}
 use native.Mathlib.Omega.{arith}
 use lib.ListN.{length, drop}
 use Rattle.wavefile.specs.Bytes.{dataName}
-use Rattle.riff.specs.Places.{sizeRead, wholeSize, WholeChunk}
+use Rattle.wavefile.specs.Chunks.{size, whole}
+use Rattle.riff.specs.Places.{Begins, WholeChunk}
 use Rattle.riff.proofs.Places.{name-at}
 use Rattle.riff.proofs.Walking.{Walking, walking-start, walking-end, walking-cut, walking-whole, walking-data, walking-next, walking-on}
 use Rattle.riff.proofs.chunks.walk.Statement.{statement}
@@ -25,7 +26,7 @@ loop-holds c = walking-start (c .before .args .bytes .now)
 returns : tie.Need-returns Inv-loop μ-loop
 returns c =
     let read = c .before .before in
-    walking-cut (read .before .before .loop .inv) (sym (ap sizeRead (c .enum-told .given .1)) ∙ read .chunk-at .ensures)
+    walking-cut (read .before .before .loop .inv) (subst (Begins _) (c .enum-told .given .1) (read .chunk-at .ensures))
 
 -- at a whole chunk
 module _ (c : tie.After-known-told Inv-loop μ-loop) where
@@ -41,16 +42,16 @@ module _ (c : tie.After-known-told Inv-loop μ-loop) where
   abbrev n : ℕ
   n = c .before .chunk .given .0 .0
 
-  whole : some n ≡ wholeSize (drop at bytes)
-  whole = sym (ap sizeRead (c .before .chunk .given .1)) ∙ c .before .before .before .chunk-at .ensures
+  sized : (whole (drop at bytes) ≡ true) × (size (drop at bytes) ≡ n)
+  sized = subst (Begins (drop at bytes)) (c .before .chunk .given .1) (c .before .before .before .chunk-at .ensures)
 
   inside : WholeChunk bytes at
-  inside = walking-whole (at-loop .loop .inv) whole
+  inside = walking-whole (at-loop .loop .inv) sized
 
 returns-2 : tie.Need-returns-2 Inv-loop μ-loop
 returns-2 c =
     let k = c .before .before in
-    walking-data (at-loop k .loop .inv) (whole k) (name-at (at k) dataName (bytes k) ∙ sym (c .before .named .ensures) ∙ c .if1 .taken)
+    walking-data (at-loop k .loop .inv) (sized k) (name-at (at k) dataName (bytes k) ∙ sym (c .before .named .ensures) ∙ c .if1 .taken)
 
 -- past another
 module _ (c : tie.After-keep Inv-loop μ-loop) where
@@ -58,11 +59,11 @@ module _ (c : tie.After-keep Inv-loop μ-loop) where
   known = c .before .before .before
 
   past : at known + (8 + n known + n known % 2) ≤ length (bytes known)
-  past = walking-next (at-loop known .loop .inv) (whole known)
+  past = walking-next (at-loop known .loop .inv) (sized known)
 
   next : Walking (bytes known) (at known + (8 + n known + n known % 2)) (c .keep .result)
   next =
-      walking-on (at-loop known .loop .inv) (whole known)
+      walking-on (at-loop known .loop .inv) (sized known)
       (name-at (at known) dataName (bytes known) ∙ sym (c .before .before .named .ensures) ∙ c .before .if1 .left) (c .keep .ensures .0) (c .keep .ensures .1)
 
 returns-3 : tie.Need-returns-3 Inv-loop μ-loop
