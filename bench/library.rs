@@ -35,6 +35,15 @@ extern "C" {
         samples: *mut i16,
         samples_length: usize,
     ) -> i64;
+
+    fn harness_onset_find(
+        values: *const i32,
+        values_length: usize,
+        factor: usize,
+        threshold: i32,
+        position: *mut f64,
+        height: *mut f64,
+    ) -> i64;
 }
 
 pub fn row_transform(samples: &[i16], coefficients: &mut [i32], work: &mut [i64]) -> i64 {
@@ -94,6 +103,26 @@ pub fn wav_read(bytes: &[u8], samples: &mut [i16]) -> i64 {
             bytes.len(),
             samples.as_mut_ptr(),
             samples.len(),
+        )
+    }
+}
+
+pub fn onset_find(
+    values: &[i32],
+    factor: usize,
+    threshold: i32,
+    position: &mut f64,
+    height: &mut f64,
+) -> i64 {
+    // SAFETY: as above, and the two numbers are lent mutably.
+    unsafe {
+        harness_onset_find(
+            values.as_ptr(),
+            values.len(),
+            factor,
+            threshold,
+            position,
+            height,
         )
     }
 }

@@ -3,12 +3,15 @@
 //! `main list` prints the name, the repetitions and the title of each case, parted by tabs. `main NAME` measures one case and prints three
 //! times in microseconds: the library's, that of Rust and that of C. Each is the minimum over the repetitions; each repetition has fresh data,
 //! which all get. The answers of library and Rust and every number of their buffers are compared, and the results of C, which are not exact,
-//! must lie near those of the library. A difference ends the program with status 1. files.rs has the cases that read files.
+//! must lie near those of the library. A difference ends the program with status 1. files.rs has the cases that read files, and
+//! onsets.rs those that find an onset.
 
 mod classic;
 mod data;
 mod files;
 mod library;
+mod onset;
+mod onsets;
 mod rust;
 mod wave;
 
@@ -113,7 +116,7 @@ const CASES: [Case; 3] = [
         repetitions: 500,
         samples: ROW,
         coefficients: ROW,
-        numbers: (ROW - 1) * FACTOR + 1,
+        numbers: rust::MOST_VALUES,
         work: 0,
         line: 0,
         unit: 256.0,
@@ -268,7 +271,10 @@ fn print_cases() {
     let readings = files::CASES
         .iter()
         .map(|c| (c.name, c.repetitions, c.title));
-    for (name, repetitions, title) in operations.chain(readings) {
+    let searches = onsets::CASES
+        .iter()
+        .map(|c| (c.name, c.repetitions, c.title));
+    for (name, repetitions, title) in operations.chain(readings).chain(searches) {
         println!("{name}\t{repetitions}\t{title}");
     }
 }
@@ -283,6 +289,8 @@ fn main() -> ExitCode {
         measure(case)
     } else if let Some(case) = files::CASES.iter().find(|case| case.name == word) {
         files::measure(case)
+    } else if let Some(case) = onsets::CASES.iter().find(|case| case.name == word) {
+        onsets::measure(case)
     } else {
         eprintln!("bench: no case '{word}'; 'list' prints them");
         return ExitCode::from(2);

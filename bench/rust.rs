@@ -5,6 +5,8 @@ pub const MARGIN: usize = 24;
 pub const LONGEST_ROW: usize = 4096;
 pub const LONGEST_SIDE: usize = 512;
 pub const LARGEST_FACTOR: usize = 16;
+pub const MOST_VALUES: usize = (LONGEST_ROW - 1) * LARGEST_FACTOR + 1;
+pub const RUN: usize = 8;
 
 /// a / 2^31 to the nearest whole number, a tie going up.
 fn rounded(a: i64) -> i64 {
@@ -231,4 +233,44 @@ pub fn wav_read(bytes: &[u8], samples: &mut [i16]) -> i64 {
         *sample = i16::from_le_bytes([bytes[0], bytes[1]]);
     }
     65536 * i64::from(long(format, 4)) + count as i64
+}
+
+/// Where the first run of values at or above the threshold starts. What a run would have is looked at from its last value to its first, and the
+/// scan goes on behind the first of them that is below it.
+fn first_run(values: &[i32], threshold: i32) -> Option<usize> {
+    let mut rest = values;
+    while let Some(run) = rest.first_chunk::<RUN>() {
+        match run.iter().rposition(|&value| value < threshold) {
+            Some(missed) => rest = &rest[missed + 1..],
+            None => return Some(values.len() - rest.len()),
+        }
+    }
+    None
+}
+
+/// 2, with the position and the height of the onset, or 1, with the greatest height of a row without one, or the number of the refusal negated.
+pub fn onset_find(
+    values: &[i32],
+    factor: usize,
+    threshold: i32,
+    position: &mut f64,
+    height: &mut f64,
+) -> i64 {
+    if values.is_empty() {
+        return -1;
+    }
+    if values.len() > MOST_VALUES {
+        return -2;
+    }
+    if factor == 0 || factor > LARGEST_FACTOR {
+        return -7;
+    }
+    if let Some(place) = first_run(values, threshold) {
+        *position = place as f64 / factor as f64;
+        *height = f64::from(values[place]) / 256.0;
+        return 2;
+    }
+    let greatest = values.iter().fold(i32::MIN, |best, &value| best.max(value));
+    *height = f64::from(greatest) / 256.0;
+    1
 }

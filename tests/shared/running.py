@@ -23,6 +23,8 @@ ROOT = os.path.dirname(os.path.dirname(os.path.dirname(os.path.abspath(__file__)
 
 SLICE = [ctypes.c_void_p, ctypes.c_size_t]
 SIZE = [ctypes.c_size_t]
+VALUE = [ctypes.c_int32]
+FLOAT = [ctypes.c_void_p]  # where it is written
 
 # The parameters of each exported function, which is harness_ and this name. Every one returns 64 bits.
 PARAMETERS = {
@@ -32,6 +34,7 @@ PARAMETERS = {
     "row_zoom": SLICE + SIZE + SLICE,
     "picture_value": SLICE + 7 * SIZE,
     "wav_read": 2 * SLICE,
+    "onset_find": SLICE + SIZE + VALUE + 2 * FLOAT,
 }
 
 
@@ -64,6 +67,10 @@ class Slice:
     def numbers(self):
         return self.memory[self.GUARD : self.GUARD + self.length]
 
+    def put(self, place, number):
+        """Another number in this place before the next call."""
+        self.memory[self.GUARD + place] = self.before[self.GUARD + place] = number
+
     def demand(self, name, written):
         """The slice must now start with what is written there and be unchanged beyond it; so must both guards."""
         expected = self.before[:]
@@ -74,6 +81,12 @@ class Slice:
             place = at - self.GUARD
             where = "" if 0 <= place < self.length else f", which is outside the slice of {self.length},"
             raise Wrong(f"{name}[{place}]{where} is {now[at]} and should be {expected[at]}")
+
+
+def protect(start, size, access):
+    """Leaves this access to the pages from a start on."""
+    if ctypes.CDLL(None).mprotect(ctypes.c_void_p(start), ctypes.c_size_t(size), access) != 0:
+        raise OSError("the access to a page could not be changed")
 
 
 class LastSlice(Slice):
@@ -87,9 +100,58 @@ class LastSlice(Slice):
         room = -(-size // mmap.PAGESIZE) * mmap.PAGESIZE
         memory = array.from_buffer(mmap.mmap(-1, room + mmap.PAGESIZE), room - size)
         memory[:] = together
-        if ctypes.CDLL(None).mprotect(ctypes.c_void_p(ctypes.addressof(memory) + size), ctypes.c_size_t(mmap.PAGESIZE), 0) != 0:
-            raise OSError("a page could not be closed")
+        protect(ctypes.addressof(memory) + size, mmap.PAGESIZE, 0)
         return memory
+
+
+class FirstSlice(Slice):
+    """A lent slice at the start of memory, without guards: what is before it can be neither read nor written."""
+
+    GUARD = 0
+
+    def held(self, kind, guard, numbers):
+        array = kind * len(numbers)
+        memory = array.from_buffer(mmap.mmap(-1, mmap.PAGESIZE + max(1, ctypes.sizeof(array))), mmap.PAGESIZE)
+        memory[:] = numbers
+        protect(ctypes.addressof(memory) - mmap.PAGESIZE, mmap.PAGESIZE, 0)
+        return memory
+
+
+class ReadOnlySlice(LastSlice):
+    """A lent slice at the end of memory that cannot be written: a call that writes, even what stands there, ends by a signal."""
+
+    def held(self, kind, guard, numbers):
+        memory = super().held(kind, guard, numbers)
+        before = ctypes.addressof(memory) % mmap.PAGESIZE
+        protect(ctypes.addressof(memory) - before, before + ctypes.sizeof(memory), mmap.PROT_READ)
+        return memory
+
+
+class Sparse:
+    """A lent slice of zeros, but for some parts by their places. Only the pages of these parts take memory."""
+
+    # MAP_NORESERVE of Linux, which not every Python names.
+    NO_RESERVE = 0x4000
+
+    def __init__(self, kind, length, parts=()):
+        self.length = length
+        self.memory = mmap.mmap(-1, length * ctypes.sizeof(kind), flags=mmap.MAP_PRIVATE | mmap.MAP_ANONYMOUS | self.NO_RESERVE)
+        self.start = (kind * 4096).from_buffer(self.memory)
+        self.parts = dict(parts)
+        for place, part in self.parts.items():
+            self.memory[place : place + len(part)] = part
+
+    def words(self):
+        return ctypes.c_void_p(ctypes.addressof(self.start)), self.length
+
+    def demand(self, name, written):
+        """What is written must stand at the start, before zeros, if the slice had no parts; the parts must be unchanged."""
+        expected = [*written, *[0] * (4096 - len(written))]
+        if not self.parts and self.start[:] != expected:
+            raise Wrong(f"{name} are {self.start[:8]} and should be {expected[:8]}")
+        for place, part in self.parts.items():
+            if self.memory[place : place + len(part)] != part:
+                raise Wrong(f"{name} have changed at {place}")
 
 
 def filled(count, start):
@@ -153,7 +215,7 @@ class Tests:
             raise Wrong(f"{what} lies {float(distance)} units from the exact one, more than {limit}")
 
     def demand_met(self, *outcomes):
-        """The cases were of all these kinds: accepted, or refused with this number."""
+        """The cases were of all these kinds: accepted, or answered so, or refused with this number."""
         missing = [outcome for outcome in outcomes if self.met[outcome] == 0]
         if missing:
             raise Wrong(f"no case of this group is of the kinds {missing}")

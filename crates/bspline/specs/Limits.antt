@@ -1,6 +1,7 @@
 -- The limits of the data: "Who can be refused". Assumes nothing.
 use Prim.Native.Nat.{ℕ, _+_, _*_}
 use Rattle.bspline.specs.Recursions.{margin}
+use Rattle.bspline.specs.Values.{zoomCount}
 
 -- the longest row
 abbrev pub longestRow : ℕ
@@ -13,6 +14,10 @@ longestSide = 512
 -- the greatest factor
 abbrev pub greatestFactor : ℕ
 greatestFactor = 16
+
+-- how many values the longest row has at the greatest factor
+abbrev pub mostValues : ℕ
+mostValues = zoomCount greatestFactor longestRow
 
 -- how many words of work a line of n numbers takes: its own and a margin at each end
 abbrev pub workWords : ℕ → ℕ

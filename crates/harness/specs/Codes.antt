@@ -2,8 +2,10 @@
 use mathlib.Core.List.{List}
 use Prim.Native.Nat.{_+_, _-_, _*_, _^_, min}
 use lib.IntN.{ℤ, pos, negℤ}
+use lib.Ieee.{Float}
 use Rattle.bspline.specs.Outcomes.{Transformed, Evaluated}
 use Rattle.bspline.specs.Refusals.{Answer, count, value, refusal}
+use Rattle.onset.specs.Outcomes.{Answer as Search, onset, quiet, refusal as unsearched}
 use Rattle.wavefile.specs.Outcomes.{Read, Answer as Reading, clip, refusal as unread}
 
 -- a count as itself, as far as 64 bits with a sign go; a refusal's number negated
@@ -47,3 +49,14 @@ pub record CodedRead : Type 0 where
 
 abbrev pub codedRead : Read → CodedRead
 codedRead o = record { answer = clipCode (o .answer); samples = o .samples }
+
+-- the outcome of a search: how many floating-point numbers its answer has, which are written in their places, or a refusal's number negated
+pub record CodedSearch : Type 0 where
+  pub answer : ℤ
+  pub position : Float
+  pub height : Float
+
+abbrev pub codedSearch : Float → Float → Search → CodedSearch
+codedSearch x h (onset p q) = record { answer = pos 2; position = p; height = q }
+codedSearch x h (quiet q) = record { answer = pos 1; position = x; height = q }
+codedSearch x h (unsearched k) = record { answer = negℤ (pos k); position = x; height = h }

@@ -8,7 +8,9 @@ ghost use Rattle.bspline.specs.PictureLayout.{sides};
 ghost use Rattle.answers.specs.Answers.{number, valued, written};
 ghost use Rattle.wavefile.specs.Outcomes.{wavRead};
 ghost use Rattle.wav.specs.Answers.{answered};
-ghost use Rattle.harness.specs.Codes.{code, valueCode, clipCode, codedTransform, codedValues, codedRead};
+ghost use Rattle.onset.specs.Outcomes.{findOnset};
+ghost use Rattle.harness.specs.Codes.{code, valueCode, clipCode, codedTransform, codedValues, codedRead, codedSearch};
+use onset::Detection;
 use spline::Position;
 use spline::Refusal;
 use spline::Shape;
@@ -145,4 +147,30 @@ pub extern "C" fn harness_wav_read(bytes: &[u8], samples: &mut [i16]) -> i64
         record { answer = r; samples = now (samples .exit) } ≡ codedRead (wavRead (now (bytes .entry)) (now (samples .entry))) ⌝ }
 {
     reading_code(wav::read(bytes, samples))
+}
+
+#[no_mangle]
+pub extern "C" fn harness_onset_find(
+    values: &[i32],
+    m: usize,
+    threshold: i32,
+    position: &mut f64,
+    height: &mut f64,
+) -> i64
+    ensures { λ r. ⌜
+        record { answer = r; position = now (position .exit); height = now (height .exit) }
+        ≡ codedSearch (now (position .entry)) (now (height .entry)) (findOnset (now (values .entry)) m threshold) ⌝ }
+{
+    match onset::find(values, m, threshold) {
+        Detection::Onset(x, h) => {
+            *position = x;
+            *height = h;
+            2
+        }
+        Detection::Quiet(h) => {
+            *height = h;
+            1
+        }
+        Detection::Refused(r) => refusal_code(r),
+    }
 }

@@ -63,6 +63,9 @@ pub ≤ℤ-antisym : {x y : ℤ} → x ≤ℤ y → y ≤ℤ x → x ≡ y
 pub <ℤ→≤ℤ : {x y : ℤ} → x <ℤ y → x ≤ℤ y
 <ℤ→≤ℤ {x} {y} = show (simp reify tt) (omega arith)
 
+pub ≤ℤ-trans : {x y z : ℤ} → x ≤ℤ y → y ≤ℤ z → x ≤ℤ z
+≤ℤ-trans {x} {y} {z} = show (simp reify tt) (omega arith)
+
 pub ≤ℤ-<ℤ-trans : {x y z : ℤ} → x ≤ℤ y → y <ℤ z → x <ℤ z
 ≤ℤ-<ℤ-trans {x} {y} {z} = show (simp reify tt) (omega arith)
 

@@ -5,13 +5,12 @@ use Prim.Native.Nat.{_≤_, _<_}
 use native.Mathlib.Omega.{arith}
 use borrow.Author.Tests.{eqb-true, not-true}
 use lib.Dec.{eqb}
-use Rattle.bspline.specs.Limits.{longestRow, greatestFactor}
+use Rattle.bspline.specs.Limits.{longestRow, greatestFactor, mostValues}
 use Rattle.bspline.specs.Refusals.{outside}
 use Rattle.bspline.specs.Values.{zoomCount}
 use Rattle.bspline.proofs.Refusals.{one-to}
 use Rattle.bspline.proofs.Zoom.{count-inside}
 use Rattle.judgetext.specs.Answers.{rowSizes}
-use Rattle.judgetext.specs.Limits.{mostValues}
 use Rattle.judgetext.specs.declared.Sizes.{Sizes}
 
 pub record Sized (s : Sizes) : Type 0 where

@@ -3,7 +3,8 @@ ghost use mathlib.Core.Path.{_≡_};
 ghost use Prim.Native.Nat.{_+_};
 ghost use lib.IntN.{pos};
 ghost use lib.ListN.{replicate};
-ghost use Rattle.judgetext.specs.Limits.{longestText, mostValues};
+ghost use Rattle.bspline.specs.Limits.{mostValues};
+ghost use Rattle.judgetext.specs.Limits.{longestText};
 use crate::LONGEST_TEXT;
 use answers::limits::MOST_VALUES;
 

@@ -2,11 +2,10 @@
 ghost use mathlib.Core.Path.{_≡_};
 ghost use Prim.Native.Nat.{_+_, _*_, _≤_, _<_};
 ghost use lib.ListN.{length};
-ghost use Rattle.bspline.specs.Limits.{longestRow, greatestFactor};
+ghost use Rattle.bspline.specs.Limits.{longestRow, greatestFactor, mostValues};
 ghost use Rattle.bspline.specs.Values.{zoomPosition};
 ghost use Rattle.answers.specs.Answers.{placed};
 ghost use Rattle.decimal.specs.Buffers.{Put};
-ghost use Rattle.judgetext.specs.Limits.{mostValues};
 ghost use Rattle.printtext.specs.Lines.{between, Lines};
 ghost use Rattle.printtext.specs.Output.{header, longestHeader, valueLine, longestLine, valueLines};
 use answers::Position;

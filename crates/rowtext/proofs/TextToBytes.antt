@@ -9,12 +9,12 @@ use borrow.Author.Tests.{le-ltb, le-leb, eq-eqb}
 use lib.IntN.{ℤ}
 use lib.ListN.{length, take, drop, length-append}
 use lib.Seq.{take-at}
+use Rattle.bspline.specs.Limits.{mostValues}
 use Rattle.bspline.specs.Outcomes.{overwrite}
 use Rattle.bspline.specs.Values.{zoomCount}
 use Rattle.answers.specs.Answers.{number}
 use Rattle.answers.specs.declared.Refusal.{Refusal}
 use Rattle.judgetext.specs.Answers.{found, replied}
-use Rattle.judgetext.specs.Limits.{mostValues}
 use Rattle.judgetext.specs.Outcomes.{Outcome, row, refused, sized, declined, reply, zoomText}
 use Rattle.zoomtext.specs.Kept.{Kept, kept}
 use Rattle.judgetext.specs.declared.Sizes.{Sizes}

@@ -12,7 +12,7 @@ use lib.IntN.{ℤ}
 use lib.ListN.{length, take, drop}
 use lib.Seq.{take-all}
 use Rattle.integers.proofs.Choices.{either}
-use Rattle.bspline.specs.Limits.{longestRow, greatestFactor}
+use Rattle.bspline.specs.Limits.{longestRow, greatestFactor, mostValues}
 use Rattle.bspline.specs.Refusals.{outside, refusal-1, refusal-2, refusal-7}
 use Rattle.bspline.specs.Transforms.{rowCoefficients}
 use Rattle.bspline.specs.Values.{zoomCount, zoomValues}
@@ -22,7 +22,7 @@ use Rattle.bspline.proofs.Zoom.{count-inside, zoom-length}
 use Rattle.decimal.proofs.Buffers.{put-start-fits}
 use Rattle.readtext.specs.Numbers.{numbers}
 use Rattle.judgetext.specs.Answers.{found}
-use Rattle.judgetext.specs.Limits.{longestText, mostValues}
+use Rattle.judgetext.specs.Limits.{longestText}
 use Rattle.judgetext.specs.Outcomes.{Outcome, row, refused, factorOf, zoomSamples, zoomNumbers, zoomText}
 use Rattle.judgetext.specs.declared.Zoomed.{Zoomed}
 use Rattle.printtext.specs.Output.{header, valueLines, refusalLine, printed, output, block, linesOfPart, mostParts, part, parts}

@@ -1,0 +1,5 @@
+-- Where a click starts.
+pub mod Runs
+pub mod Measures
+pub mod Outcomes
+pub mod Answers
