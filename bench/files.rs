@@ -2,8 +2,8 @@
 //! is divided by their number.
 //!
 //! The files of each repetition are fresh. Library, Rust and C read every one of them before the clock starts, and the answers and samples are
-//! compared with what the files were made of. In the time they read one file after the other, all into the same sample buffer: the time of a
-//! copy can depend on where its two parts of memory lie.
+//! compared with what the files were made of; an earlier version of the library must not refuse one. In the time they read one file after the
+//! other, all into the same sample buffer: the time of a copy can depend on where its two parts of memory lie.
 
 use crate::{data, library, rust, wave};
 use std::time::{Duration, Instant};
@@ -36,11 +36,18 @@ pub const CASES: [Case; 2] = [
 
 type Reading = fn(&[u8], &mut [i16]) -> i64;
 
-const READINGS: [(&str, Reading); 3] = [
-    ("the library", library::wav_read),
-    ("Rust", rust::wav_read),
-    ("C", wave::read),
-];
+/// Reads the file of a clip into a buffer: the answer, or what is wrong.
+type Test = fn(&Clip, Reading, &mut [i16]) -> Result<i64, String>;
+
+/// Who reads, how, and how that is tested.
+type Reader = (&'static str, Reading, Test);
+
+const LIBRARY: Reader = ("the library", library::wav_read, Clip::exact);
+const RUST: Reader = ("Rust", rust::wav_read, Clip::exact);
+const C: Reader = ("C", wave::read, Clip::exact);
+
+/// The reading of the earlier version of the library, if there is one that reads files.
+const BEFORE: Option<Reading> = earlier!("wav_read", before::wav_read);
 
 const LEAST_RATE: u32 = 96_000;
 
@@ -88,52 +95,71 @@ impl Clip {
         65536 * i64::from(self.rate) + self.samples.len() as i64
     }
 
-    /// What is wrong in reading the file, if anything is. No number that the buffer has before is one that it must have after.
-    fn difference(&self, read: Reading, buffer: &mut [i16]) -> Option<String> {
+    /// Tests all that reading gives. No number that the buffer has before is one that it must have after.
+    fn exact(&self, read: Reading, buffer: &mut [i16]) -> Result<i64, String> {
         for (number, sample) in buffer.iter_mut().zip(&self.samples) {
             *number = !sample;
         }
         let answer = read(&self.file, buffer);
         if answer != self.answer() {
-            return Some(format!("answers {answer}, not {}", self.answer()));
+            return Err(format!("answers {answer}, not {}", self.answer()));
         }
-        let k = (0..buffer.len()).find(|&k| buffer[k] != self.samples[k])?;
-        Some(format!(
-            "reads sample {k} as {}, not {}",
-            buffer[k], self.samples[k]
-        ))
+        match (0..buffer.len()).find(|&k| buffer[k] != self.samples[k]) {
+            Some(k) => Err(format!(
+                "reads sample {k} as {}, not {}",
+                buffer[k], self.samples[k]
+            )),
+            None => Ok(answer),
+        }
+    }
+
+    /// Tests only that the file is not refused.
+    fn accepted(&self, read: Reading, buffer: &mut [i16]) -> Result<i64, String> {
+        match read(&self.file, buffer) {
+            answer if answer < 0 => Err(format!("answers {answer}")),
+            answer => Ok(answer),
+        }
     }
 }
 
-/// The least times of the library, of Rust and of C for one file, in microseconds. They take turns in going first.
-pub fn measure(case: &Case) -> Result<[f64; 3], String> {
+/// The least times of readers for one file, in microseconds. They take turns in going first.
+fn least_times<const N: usize>(case: &Case, readers: [Reader; N]) -> Result<[f64; N], String> {
     let mut clips: Vec<Clip> = (0..case.files).map(|_| Clip::new(case)).collect();
     let mut buffer = vec![0; case.samples];
-    let mut least = [Duration::MAX; 3];
+    let mut least = [Duration::MAX; N];
     for repetition in 0..case.repetitions {
         let place = format!("{}, repetition {repetition}", case.name);
         for (number, clip) in (repetition * case.files..).zip(&mut clips) {
             clip.fill(number);
         }
-        for (who, read) in READINGS {
-            if let Some(what) = clips
-                .iter()
-                .find_map(|clip| clip.difference(read, &mut buffer))
-            {
-                return Err(format!("{place}: {who} {what}"));
+        let mut answers = [0; N];
+        for (answers, (who, read, test)) in answers.iter_mut().zip(readers) {
+            for clip in &clips {
+                *answers += test(clip, read, &mut buffer)
+                    .map_err(|what| format!("{place}: {who} {what}"))?;
             }
         }
-        let answers: i64 = clips.iter().map(Clip::answer).sum();
-        for turn in 0..3 {
-            let i = (repetition as usize + turn) % 3;
-            let (who, read) = READINGS[i];
+        for turn in 0..N {
+            let i = (repetition as usize + turn) % N;
+            let (who, read, _) = readers[i];
             let start = Instant::now();
             let sum: i64 = clips.iter().map(|clip| read(&clip.file, &mut buffer)).sum();
             least[i] = least[i].min(start.elapsed());
-            if sum != answers {
+            if sum != answers[i] {
                 return Err(format!("{place}: {who} gives other answers in the time"));
             }
         }
     }
     Ok(least.map(|time| time.as_nanos() as f64 / 1000.0 / case.files as f64))
+}
+
+/// The least times of the library, of Rust and of C.
+pub fn measure(case: &Case) -> Result<[f64; 3], String> {
+    least_times(case, [LIBRARY, RUST, C])
+}
+
+/// The least times of the library and of the earlier version, if there is one that reads files.
+pub fn measure_versions(case: &Case) -> Option<Result<[f64; 2], String>> {
+    let before = ("the earlier version", BEFORE?, Clip::accepted as Test);
+    Some(least_times(case, [LIBRARY, before]))
 }

@@ -1,4 +1,5 @@
-//! The operations of the library, by its C functions: a slice passes as a pointer and a length.
+//! The operations of the library, by its C functions: a slice passes as a pointer and a length. `run --before` makes a crate of a copy of this
+//! file for an earlier version of the library; `inline` is for the calls of that crate to be like those of this module.
 
 extern "C" {
     fn harness_row_transform(
@@ -46,6 +47,7 @@ extern "C" {
     ) -> i64;
 }
 
+#[inline]
 pub fn row_transform(samples: &[i16], coefficients: &mut [i32], work: &mut [i64]) -> i64 {
     // SAFETY: each pointer and length are those of a slice, and the slices that are written are lent mutably.
     unsafe {
@@ -60,6 +62,7 @@ pub fn row_transform(samples: &[i16], coefficients: &mut [i32], work: &mut [i64]
     }
 }
 
+#[inline]
 pub fn picture_transform(
     pixels: &[i16],
     width: usize,
@@ -82,6 +85,7 @@ pub fn picture_transform(
     }
 }
 
+#[inline]
 pub fn row_zoom(coefficients: &[i32], factor: usize, values: &mut [i32]) -> i64 {
     // SAFETY: as above.
     unsafe {
@@ -95,6 +99,7 @@ pub fn row_zoom(coefficients: &[i32], factor: usize, values: &mut [i32]) -> i64 
     }
 }
 
+#[inline]
 pub fn wav_read(bytes: &[u8], samples: &mut [i16]) -> i64 {
     // SAFETY: as above.
     unsafe {
@@ -107,6 +112,7 @@ pub fn wav_read(bytes: &[u8], samples: &mut [i16]) -> i64 {
     }
 }
 
+#[inline]
 pub fn onset_find(
     values: &[i32],
     factor: usize,

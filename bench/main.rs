@@ -5,6 +5,25 @@
 //! which all get. The answers of library and Rust and every number of their buffers are compared, and the results of C, which are not exact,
 //! must lie near those of the library. A difference ends the program with status 1. files.rs has the cases that read files, and
 //! onsets.rs those that find an onset.
+//!
+//! `main versions` measures the library beside an earlier version of it, if the program is built with one, and prints a line for each case that
+//! both have, its fields parted by tabs: the title, the library's time and that of the earlier version. Both get the same data, as above and
+//! taking turns; their results are not compared, since an earlier version may round otherwise, but neither may refuse.
+
+/// The operation of the earlier version, if the program is built with one that has the C function of this name: each of its functions is told
+/// by `--cfg 'before="NAME"'`, and the crate `before` calls them.
+macro_rules! earlier {
+    ($name:literal, $operation:expr) => {{
+        #[cfg(before = $name)]
+        {
+            Some($operation)
+        }
+        #[cfg(not(before = $name))]
+        {
+            None
+        }
+    }};
+}
 
 mod classic;
 mod data;
@@ -39,7 +58,7 @@ type Operation = fn(&Input, &mut Output);
 /// One line of the table: what is measured, how often, and how many numbers it reads, writes and works in. Coefficients are those of the
 /// samples of a row; an operation that reads no coefficients has 0 of them. The line is that of C. A number of the library is `unit` times the
 /// one of C, and may differ from it by `distance`: that is at least what is proved of the library's distance to the exact number, and some room
-/// for the error of C.
+/// for the error of C. `before` is the operation of the earlier version.
 struct Case {
     name: &'static str,
     title: &'static str,
@@ -52,6 +71,7 @@ struct Case {
     unit: f64,
     distance: f64,
     library: Operation,
+    before: Option<Operation>,
     rust: Operation,
     c: Operation,
 }
@@ -75,6 +95,9 @@ const CASES: [Case; 3] = [
         library: |from, to| {
             to.answer = library::row_transform(&from.samples, &mut to.numbers, &mut to.work);
         },
+        before: earlier!("row_transform", |from, to| {
+            to.answer = before::row_transform(&from.samples, &mut to.numbers, &mut to.work);
+        }),
         rust: |from, to| {
             to.answer = rust::row_transform(&from.samples, &mut to.numbers, &mut to.work);
         },
@@ -102,6 +125,10 @@ const CASES: [Case; 3] = [
                 &mut to.work,
             );
         },
+        before: earlier!("picture_transform", |from, to| {
+            to.answer =
+                before::picture_transform(&from.samples, SIDE, SIDE, &mut to.numbers, &mut to.work);
+        }),
         rust: |from, to| {
             to.answer =
                 rust::picture_transform(&from.samples, SIDE, SIDE, &mut to.numbers, &mut to.work);
@@ -124,6 +151,9 @@ const CASES: [Case; 3] = [
         library: |from, to| {
             to.answer = library::row_zoom(&from.coefficients, FACTOR, &mut to.numbers);
         },
+        before: earlier!("row_zoom", |from, to| {
+            to.answer = before::row_zoom(&from.coefficients, FACTOR, &mut to.numbers);
+        }),
         rust: |from, to| {
             to.answer = rust::row_zoom(&from.coefficients, FACTOR, &mut to.numbers);
         },
@@ -132,6 +162,22 @@ const CASES: [Case; 3] = [
         },
     },
 ];
+
+const ODD_FACTOR: usize = 7;
+
+/// Row zoom at another factor, of the library and the earlier version only: what is not named here is not used.
+const ODD_ZOOM: Case = Case {
+    name: "row_zoom_odd",
+    title: "row zoom, 4096 samples at factor 7",
+    numbers: (ROW - 1) * ODD_FACTOR + 1,
+    library: |from, to| {
+        to.answer = library::row_zoom(&from.coefficients, ODD_FACTOR, &mut to.numbers);
+    },
+    before: earlier!("row_zoom", |from, to| {
+        to.answer = before::row_zoom(&from.coefficients, ODD_FACTOR, &mut to.numbers);
+    }),
+    ..CASES[2]
+};
 
 impl Input {
     fn new(case: &Case) -> Input {
@@ -237,33 +283,76 @@ fn excess(case: &Case, library: &Output, c: &Output) -> Option<String> {
     ))
 }
 
-/// The least times of the library, of Rust and of C, in microseconds. They take turns in going first.
-fn measure(case: &Case) -> Result<[f64; 3], String> {
-    let operations = [case.library, case.rust, case.c];
+/// What is wrong in the results of the library, of Rust and of C, if anything is.
+fn fault(case: &Case, [library, rust, c]: &[Output; 3]) -> Option<String> {
+    if rust.answer < 0 {
+        return Some(format!("refused, {}", rust.answer));
+    }
+    if let Some(what) = difference(library, rust) {
+        return Some(format!("library and Rust differ in {what}"));
+    }
+    let what = excess(case, library, c)?;
+    Some(format!("library and C differ too much in {what}"))
+}
+
+/// The refusal of a version, if one refuses.
+fn refusal(_: &Case, versions: &[Output; 2]) -> Option<String> {
+    let to = versions.iter().find(|to| to.answer < 0)?;
+    Some(format!("refused, {}", to.answer))
+}
+
+/// The least times of operations, in microseconds. They take turns in going first, and after each repetition `wrong` looks at their results.
+fn least_times<const N: usize>(
+    case: &Case,
+    operations: [Operation; N],
+    mut to: [Output; N],
+    wrong: fn(&Case, &[Output; N]) -> Option<String>,
+) -> Result<[f64; N], String> {
     let mut from = Input::new(case);
-    let mut to = [Output::exact(case), Output::exact(case), Output::real(case)];
-    let mut least = [Duration::MAX; 3];
+    let mut least = [Duration::MAX; N];
     for repetition in 0..case.repetitions {
         from.fill(repetition)?;
-        // Even repetitions are noise and odd ones are clicks; in each kind each of the three goes first.
-        let first = (repetition / 2 % 3) as usize;
-        for turn in 0..3 {
-            let i = (first + turn) % 3;
+        // Even repetitions are noise and odd ones are clicks; in each kind each of the operations goes first.
+        let first = repetition as usize / 2 % N;
+        for turn in 0..N {
+            let i = (first + turn) % N;
             least[i] = least[i].min(time(operations[i], &from, &mut to[i]));
         }
-        let [library, rust, c] = &to;
-        let place = format!("{}, repetition {repetition}", case.name);
-        if rust.answer < 0 {
-            return Err(format!("{place}: refused, {}", rust.answer));
-        }
-        if let Some(what) = difference(library, rust) {
-            return Err(format!("{place}: library and Rust differ in {what}"));
-        }
-        if let Some(what) = excess(case, library, c) {
-            return Err(format!("{place}: library and C differ too much in {what}"));
+        if let Some(what) = wrong(case, &to) {
+            return Err(format!("{}, repetition {repetition}: {what}", case.name));
         }
     }
     Ok(least.map(|time| time.as_nanos() as f64 / 1000.0))
+}
+
+/// The least times of the library, of Rust and of C.
+fn measure(case: &Case) -> Result<[f64; 3], String> {
+    let operations = [case.library, case.rust, case.c];
+    let to = [Output::exact(case), Output::exact(case), Output::real(case)];
+    least_times(case, operations, to, fault)
+}
+
+/// The least times of the library and of the earlier version, if there is one that has the operation.
+fn measure_versions(case: &Case) -> Option<Result<[f64; 2], String>> {
+    let operations = [case.library, case.before?];
+    let to = [Output::exact(case), Output::exact(case)];
+    Some(least_times(case, operations, to, refusal))
+}
+
+fn print_versions() -> Result<(), String> {
+    let operations = CASES.iter().chain([&ODD_ZOOM]);
+    let operations = operations.map(|c| (c.title, measure_versions(c)));
+    let readings = files::CASES.iter();
+    let readings = readings.map(|c| (c.title, files::measure_versions(c)));
+    let searches = onsets::CASES.iter();
+    let searches = searches.map(|c| (c.title, onsets::measure_versions(c)));
+    for (title, least) in operations.chain(readings).chain(searches) {
+        if let Some(least) = least {
+            let [library, before] = least?;
+            println!("{title}\t{library:.5}\t{before:.5}");
+        }
+    }
+    Ok(())
 }
 
 fn print_cases() {
@@ -279,27 +368,29 @@ fn print_cases() {
     }
 }
 
+fn print_times([library, rust, c]: [f64; 3]) {
+    println!("{library:.5} {rust:.5} {c:.5}");
+}
+
 fn main() -> ExitCode {
     let word = std::env::args().nth(1).unwrap_or_default();
-    if word == "list" {
+    let done = if word == "list" {
         print_cases();
-        return ExitCode::SUCCESS;
-    }
-    let least = if let Some(case) = CASES.iter().find(|case| case.name == word) {
-        measure(case)
+        Ok(())
+    } else if word == "versions" {
+        print_versions()
+    } else if let Some(case) = CASES.iter().find(|case| case.name == word) {
+        measure(case).map(print_times)
     } else if let Some(case) = files::CASES.iter().find(|case| case.name == word) {
-        files::measure(case)
+        files::measure(case).map(print_times)
     } else if let Some(case) = onsets::CASES.iter().find(|case| case.name == word) {
-        onsets::measure(case)
+        onsets::measure(case).map(print_times)
     } else {
         eprintln!("bench: no case '{word}'; 'list' prints them");
         return ExitCode::from(2);
     };
-    match least {
-        Ok([library, rust, c]) => {
-            println!("{library:.5} {rust:.5} {c:.5}");
-            ExitCode::SUCCESS
-        }
+    match done {
+        Ok(()) => ExitCode::SUCCESS,
         Err(what) => {
             eprintln!("bench: {what}");
             ExitCode::FAILURE

@@ -1,7 +1,7 @@
 //! Measures the search for an onset, in the longest rows of values at the greatest factor.
 //!
 //! Each repetition has a fresh row. After it the answers of library, Rust and C are compared, and to the bit the two numbers that a search may
-//! write: one that it must leave is still the one that was there before.
+//! write: one that it must leave is still the one that was there before. An earlier version of the library must not refuse.
 
 use crate::{data, library, onset, rust};
 use std::time::{Duration, Instant};
@@ -55,11 +55,8 @@ pub const CASES: [Case; 4] = [
 
 type Search = fn(&[i32], usize, i32, &mut f64, &mut f64) -> i64;
 
-const SEARCHES: [(&str, Search); 3] = [
-    ("the library", library::onset_find),
-    ("Rust", rust::onset_find),
-    ("C", onset::find),
-];
+/// The search of the earlier version of the library, if there is one that finds onsets.
+const BEFORE: Option<Search> = earlier!("onset_find", before::onset_find);
 
 /// The threshold of the rows with a period: 4096 counts.
 const THRESHOLD: i32 = 256 * 4096;
@@ -136,32 +133,57 @@ fn time(search: Search, values: &[i32], threshold: i32, to: &mut Found) -> Durat
     start.elapsed()
 }
 
-/// The least times of the library, of Rust and of C, in microseconds. They take turns in going first.
-pub fn measure(case: &Case) -> Result<[f64; 3], String> {
+/// What is wrong in what the library, Rust and C find, if anything is.
+fn fault(case: &Case, [library, rust, c]: &[Found; 3]) -> Option<String> {
+    if library.answer != case.answer {
+        return Some(format!("the library finds {library:?}"));
+    }
+    for (who, other) in [("Rust", rust), ("C", c)] {
+        if other.bits() != library.bits() {
+            return Some(format!("the library finds {library:?} and {who} {other:?}"));
+        }
+    }
+    None
+}
+
+/// The refusal of a version, if one refuses.
+fn refusal(_: &Case, versions: &[Found; 2]) -> Option<String> {
+    let found = versions.iter().find(|found| found.answer < 0)?;
+    Some(format!("refused, {}", found.answer))
+}
+
+/// The least times of searches, in microseconds. They take turns in going first, and after each repetition `wrong` looks at what they find.
+fn least_times<const N: usize>(
+    case: &Case,
+    searches: [Search; N],
+    wrong: fn(&Case, &[Found; N]) -> Option<String>,
+) -> Result<[f64; N], String> {
     let mut values = vec![0; rust::MOST_VALUES];
-    let mut found = [Found::NOTHING; 3];
-    let mut least = [Duration::MAX; 3];
+    let mut found = [Found::NOTHING; N];
+    let mut least = [Duration::MAX; N];
     for repetition in 0..case.repetitions {
-        let place = format!("{}, repetition {repetition}", case.name);
         let threshold = (case.fill)(repetition, &mut values)?;
-        // Even repetitions are made of noise and odd ones of clicks; in each kind each of the three goes first.
-        let first = (repetition / 2 % 3) as usize;
-        for turn in 0..3 {
-            let i = (first + turn) % 3;
-            let (_, search) = SEARCHES[i];
-            least[i] = least[i].min(time(search, &values, threshold, &mut found[i]));
+        // Even repetitions are made of noise and odd ones of clicks; in each kind each of the searches goes first.
+        let first = repetition as usize / 2 % N;
+        for turn in 0..N {
+            let i = (first + turn) % N;
+            least[i] = least[i].min(time(searches[i], &values, threshold, &mut found[i]));
         }
-        if found[0].answer != case.answer {
-            return Err(format!("{place}: the library finds {:?}", found[0]));
-        }
-        for ((who, _), other) in SEARCHES.iter().zip(&found) {
-            if other.bits() != found[0].bits() {
-                return Err(format!(
-                    "{place}: the library finds {:?} and {who} {other:?}",
-                    found[0]
-                ));
-            }
+        if let Some(what) = wrong(case, &found) {
+            return Err(format!("{}, repetition {repetition}: {what}", case.name));
         }
     }
     Ok(least.map(|time| time.as_nanos() as f64 / 1000.0))
+}
+
+/// The least times of the library, of Rust and of C.
+pub fn measure(case: &Case) -> Result<[f64; 3], String> {
+    let searches = [library::onset_find, rust::onset_find, onset::find];
+    least_times(case, searches, fault)
+}
+
+/// The least times of the library and of the earlier version, if there is one that finds onsets.
+pub fn measure_versions(case: &Case) -> Option<Result<[f64; 2], String>> {
+    let searches = [library::onset_find, BEFORE?];
+    Some(least_times(case, searches, refusal))
 }

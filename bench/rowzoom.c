@@ -115,9 +115,10 @@ static int refuse(int32_t number) {
   return 0;
 }
 
-/* a / 2^31 to the nearest whole number, a tie going up. */
-static int64_t rounded(int64_t a) {
-  return (a + (INT64_C(1) << 30)) >> 31;
+/* The pole times a number, over 2^31, to the nearest whole number, a tie going away from zero. The sign is that of the number, which is there
+ * before the product. */
+static int64_t times_pole(int64_t a) {
+  return (POLE * a + (INT64_C(1) << 30) - (a < 0)) >> 31;
 }
 
 /* The place that an index reads in a row of n, which is continued past both ends without repeating the end sample. */
@@ -131,25 +132,25 @@ static size_t mirrored(int64_t index, size_t n) {
   return (size_t)(within > last ? 2 * last - within : within);
 }
 
-/* Both recursions, each coefficient rounded and stored as it is made. Only the margins need the mirrored index. */
+/* Both recursions, each coefficient rounded, a tie going away from zero, and stored as it is made. Only the margins need the mirrored index. */
 static void transform(size_t n) {
   int64_t p = 0;
   for (int64_t k = -MARGIN; k < 0; k++)
-    p = 65536 * (int64_t)samples[mirrored(k, n)] - rounded(POLE * p);
+    p = 65536 * (int64_t)samples[mirrored(k, n)] - times_pole(p);
   for (size_t k = 0; k < n; k++) {
-    p = 65536 * (int64_t)samples[k] - rounded(POLE * p);
+    p = 65536 * (int64_t)samples[k] - times_pole(p);
     work[k] = p;
   }
   for (size_t k = n; k < n + MARGIN; k++) {
-    p = 65536 * (int64_t)samples[mirrored((int64_t)k, n)] - rounded(POLE * p);
+    p = 65536 * (int64_t)samples[mirrored((int64_t)k, n)] - times_pole(p);
     work[k] = p;
   }
   int64_t b = 0;
   for (size_t k = n + MARGIN; k-- > n;)
-    b = rounded(POLE * (work[k] - b));
+    b = times_pole(work[k] - b);
   for (size_t k = n; k-- > 0;) {
-    b = rounded(POLE * (work[k] - b));
-    coefficients[k] = (int32_t)((6 * b + 8) >> 4);
+    b = times_pole(work[k] - b);
+    coefficients[k] = (int32_t)((6 * b + 8 - (b < 0)) >> 4);
   }
 }
 
@@ -157,11 +158,13 @@ static int64_t coefficient(size_t k, int offset, size_t n) {
   return coefficients[mirrored((int64_t)k + offset, n)];
 }
 
-/* Every value is written as it is made: the weighted sum over 96m^3 to the nearest whole number, a tie going up. */
+/* Every value is written as it is made: the weighted sum over 96m^3 to the nearest whole number, a tie going away from zero. The division goes
+ * towards zero, so that half of the divisor has the sign of the sum. */
 static void zoom(size_t n, size_t factor) {
   int64_t weights[LARGEST_FACTOR][4];
   int64_t m = (int64_t)factor;
   int64_t divisor = 96 * m * m * m;
+  int64_t half = divisor / 2;
   for (int64_t j = 0; j < m; j++) {
     weights[j][0] = (m - j) * (m - j) * (m - j);
     weights[j][1] = 3 * j * j * j - 6 * j * j * m + 4 * m * m * m;
@@ -177,8 +180,8 @@ static void zoom(size_t n, size_t factor) {
     /* The zoom ends at the last sample. */
     size_t count = k + 1 < n ? factor : 1;
     for (size_t j = 0; j < count; j++) {
-      int64_t sum = weights[j][0] * a + weights[j][1] * b + weights[j][2] * c + weights[j][3] * d + divisor / 2;
-      int64_t value = sum / divisor - (sum % divisor < 0);
+      int64_t sum = weights[j][0] * a + weights[j][1] * b + weights[j][2] * c + weights[j][3] * d;
+      int64_t value = (sum + (sum < 0 ? -half : half)) / divisor;
       if (sizeof output - used < LONGEST_LINE)
         write_out();
       put_number((int32_t)k, ' ');

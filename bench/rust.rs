@@ -8,9 +8,10 @@ pub const LARGEST_FACTOR: usize = 16;
 pub const MOST_VALUES: usize = (LONGEST_ROW - 1) * LARGEST_FACTOR + 1;
 pub const RUN: usize = 8;
 
-/// a / 2^31 to the nearest whole number, a tie going up.
-fn rounded(a: i64) -> i64 {
-    (a + (1 << 30)) >> 31
+/// The pole times a number, over 2^31, to the nearest whole number, a tie going away from zero. The sign is that of the number, which is there
+/// before the product.
+fn times_pole(a: i64) -> i64 {
+    (POLE * a + (1 << 30) - i64::from(a < 0)) >> 31
 }
 
 /// The place that an index reads in a row of n, which is continued past both ends without repeating the end sample.
@@ -33,28 +34,28 @@ fn forward(n: usize, work: &mut [i64], load: impl Fn(usize) -> i64) {
     let (middle, right) = rest.split_at_mut(n);
     let mut p = 0;
     for (i, word) in left.iter_mut().enumerate() {
-        p = load(mirrored(i as i64 - MARGIN as i64, n)) - rounded(POLE * p);
+        p = load(mirrored(i as i64 - MARGIN as i64, n)) - times_pole(p);
         *word = p;
     }
     for (k, word) in middle.iter_mut().enumerate() {
-        p = load(k) - rounded(POLE * p);
+        p = load(k) - times_pole(p);
         *word = p;
     }
     for (i, word) in right.iter_mut().take(MARGIN).enumerate() {
-        p = load(mirrored((n + i) as i64, n)) - rounded(POLE * p);
+        p = load(mirrored((n + i) as i64, n)) - times_pole(p);
         *word = p;
     }
 }
 
-/// The backward recursion, each coefficient rounded and stored as it is made. Nothing below place 0 is needed.
+/// The backward recursion, each coefficient rounded, a tie going away from zero, and stored as it is made. Nothing below place 0 is needed.
 fn backward(n: usize, work: &[i64], mut store: impl FnMut(usize, i32)) {
     let mut b = 0;
     for &p in work[MARGIN + n..][..MARGIN].iter().rev() {
-        b = rounded(POLE * (p - b));
+        b = times_pole(p - b);
     }
     for (k, &p) in work[MARGIN..][..n].iter().enumerate().rev() {
-        b = rounded(POLE * (p - b));
-        store(k, ((6 * b + 8) >> 4) as i32);
+        b = times_pole(p - b);
+        store(k, ((3 * b + 4 - i64::from(b < 0)) >> 3) as i32);
     }
 }
 
@@ -129,10 +130,12 @@ fn weights(j: i64, m: i64) -> [i64; 4] {
     ]
 }
 
-/// The value of the four coefficients around a position: the weighted sum over 96m³ to the nearest whole number, a tie going up.
+/// The value of the four coefficients around a position: the weighted sum over 96m³ to the nearest whole number, a tie going away from zero.
+/// The division goes towards zero, so that half of the divisor has the sign of the sum.
 fn value(around: [i64; 4], weights: &[i64; 4], divisor: i64) -> i32 {
     let sum: i64 = around.iter().zip(weights).map(|(c, w)| c * w).sum();
-    (sum + divisor / 2).div_euclid(divisor) as i32
+    let half = divisor / 2;
+    ((sum + if sum < 0 { -half } else { half }) / divisor) as i32
 }
 
 /// The four coefficients around a place; only at the ends do they need the mirrored index.

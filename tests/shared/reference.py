@@ -17,8 +17,10 @@ def work_words(line):
 
 
 def nearest(numerator, denominator):
-    """The whole number nearest to the fraction, a tie going up; R(a) is nearest(a, 2 ** 31)."""
-    return (2 * numerator + denominator) // (2 * denominator)
+    """The whole number nearest to the fraction, a tie going away from zero, so that opposite fractions have opposite ones. The denominator is any
+    whole number above 0. R(a) is nearest(a, 2 ** 31)."""
+    size = (2 * abs(numerator) + denominator) // (2 * denominator)
+    return -size if numerator < 0 else size
 
 
 def mirrored(index, n):
@@ -32,20 +34,30 @@ def mirrored(index, n):
 # ----- Transforms -----
 
 
-def recursions(t):
+# The roundings of R forward, of R backward and of the coefficient. Others are given only to show that a case tells them from these.
+ROUNDINGS = (nearest, nearest, nearest)
+
+
+def recursions(t, roundings=ROUNDINGS):
     """Both recursions over one line of internal numbers, and the coefficients."""
+    forward, backward, last = roundings
     n = len(t)
     p = {-MARGIN - 1: 0}
     for k in range(-MARGIN, n + MARGIN):
-        p[k] = t[mirrored(k, n)] - nearest(POLE * p[k - 1], 2**31)
+        p[k] = t[mirrored(k, n)] - forward(POLE * p[k - 1], 2**31)
     b = {n + MARGIN: 0}
     for k in range(n + MARGIN - 1, -MARGIN - 1, -1):
-        b[k] = nearest(POLE * (p[k] - b[k + 1]), 2**31)
-    return p, b, [nearest(6 * b[k], 16) for k in range(n)]
+        b[k] = backward(POLE * (p[k] - b[k + 1]), 2**31)
+    return p, b, [last(6 * b[k], 16) for k in range(n)]
 
 
-def row_coefficients(samples):
-    return recursions([65536 * sample for sample in samples])[2]
+def row_coefficients(samples, roundings=ROUNDINGS):
+    return recursions([65536 * sample for sample in samples], roundings)[2]
+
+
+def column_coefficients(coefficients, roundings=ROUNDINGS):
+    """A column of what the first pass of a picture has left, after the second."""
+    return recursions([16 * coefficient for coefficient in coefficients], roundings)[2]
 
 
 def by_rows_then_columns(line_of_row, line_of_column, numbers, width):
@@ -55,8 +67,10 @@ def by_rows_then_columns(line_of_row, line_of_column, numbers, width):
     return [number for row in zip(*columns) for number in row]
 
 
-def picture_coefficients(pixels, width):
-    return by_rows_then_columns(row_coefficients, lambda column: recursions([16 * c for c in column])[2], pixels, width)
+def picture_coefficients(pixels, width, in_rows=ROUNDINGS, in_columns=ROUNDINGS):
+    return by_rows_then_columns(
+        lambda row: row_coefficients(row, in_rows), lambda column: column_coefficients(column, in_columns), pixels, width
+    )
 
 
 # ----- The exact solution -----

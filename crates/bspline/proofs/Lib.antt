@@ -22,4 +22,6 @@ pub mod Weights
 pub mod Values
 pub mod Zoom
 pub mod Operations
+pub mod Negation
+pub mod ReversedPolarity
 pub mod Worked

@@ -1,12 +1,12 @@
--- The laws of tables: how many numbers they have, which number stands where, and when two tables are the same.
+-- The laws of tables: how many numbers they have, which number stands where, and when two tables are the same; of a function of every number.
 -- `tabulate` takes one number off at a time, so each law is an induction over the count. Assumes nothing.
-use mathlib.Core.List.{_∷_}
+use mathlib.Core.List.{List, [], _∷_, map}
 use mathlib.Core.Path.{_≡_, refl, ap, ap₂, _∙_}
 use Prim.Native.Nat.{ℕ, zero, suc, _+_, _<_}
 use native.Mathlib.Nat.{zero-add}
 use native.Mathlib.Omega.{arith}
 use lib.IntN.{ℤ}
-use lib.ListN.{length}
+use lib.ListN.{length, take, drop}
 use Rattle.bspline.specs.Lists.{tabulate, at}
 
 -- a table of n numbers has n numbers
@@ -31,3 +31,20 @@ pub tabulate-same : (f g : ℕ → ℤ) (a n : ℕ) → ((k : ℕ) → k < a + n
 unfolding tabulate
 tabulate-same f g a zero e = refl
 tabulate-same f g a (suc n) e = ap₂ _∷_ (e a (omega arith)) (tabulate-same f g (suc a) n (λ k h. e k (omega arith)))
+
+-- a function of every number of a table is the table of that function's numbers
+pub tabulate-map : (h : ℤ → ℤ) (f : ℕ → ℤ) (a n : ℕ) → tabulate (λ k. h (f k)) a n ≡ map h (tabulate f a n)
+unfolding tabulate
+tabulate-map h f a zero = refl
+tabulate-map h f a (suc n) = ap (λ l. h (f a) ∷ l) (tabulate-map h f (suc a) n)
+
+-- ---- a function of every number of a part of a list
+pub take-map : (h : ℤ → ℤ) (n : ℕ) (l : List ℤ) → take n (map h l) ≡ map h (take n l)
+take-map h zero l = refl
+take-map h (suc n) [] = refl
+take-map h (suc n) (a ∷ l) = ap (λ k. h a ∷ k) (take-map h n l)
+
+pub drop-map : (h : ℤ → ℤ) (n : ℕ) (l : List ℤ) → drop n (map h l) ≡ map h (drop n l)
+drop-map h zero l = refl
+drop-map h (suc n) [] = refl
+drop-map h (suc n) (a ∷ l) = drop-map h n l

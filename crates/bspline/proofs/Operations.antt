@@ -10,7 +10,7 @@ use native.Mathlib.Nat.{add-zero, mod-lt, mul-le-mul-right}
 use native.Mathlib.Omega.{arith}
 use borrow.Author.Tests.{ltb-false, eqb-false, ne-eqb, eq-eqb, le-ltb}
 use lib.IntN.{ℤ, pos, _*ℤ_}
-use lib.ListN.{length, take, drop, length-append, List·getD-append}
+use lib.ListN.{length, take, drop, length-append}
 use lib.Seq.{getD-take, take-at}
 use Rattle.bspline.specs.Exact.{RowAccurate, PictureAccurate}
 use Rattle.bspline.specs.Limits.{longestRow, longestSide, greatestFactor, workWords}
@@ -27,7 +27,7 @@ use Rattle.bspline.proofs.Transforms.{row-length, picture-length}
 use Rattle.bspline.proofs.Zoom.{position-at, zoom-length}
 use Rattle.bspline.proofs.Values.{row-value-accurate, sample-returns, picture-value-accurate, pixel-returns}
 
--- ---- what an accepted transform leaves
+-- ---- what an accepted call leaves
 -- a transform that answers a count n has made so many numbers, no test's condition holds, and the numbers begin the buffer
 transform-taken : (tests : List Test) (q words : ℕ) (made buffer work C W : List ℤ) (n : ℕ) → length made ≡ q →
     record { answer = count n; coefficients = C; work = W } ≡ judged tests (refused buffer work) (accepted q made words buffer work) →
@@ -50,7 +50,44 @@ value-taken tests v w e =
     let t = judged-accepted (λ (a : Answer). a) tests refusal (value w) (value v) never (sym e) in
     (t .0, let f = t .1 in cc)
 
+-- the tests of row zoom
+abbrev pub zoom-tests : ℕ → List ℤ → List ℤ → List Test
+zoom-tests m c buffer = refusal-1 (length c) ∷ refusal-2 longestRow (length c) ∷ refusal-7 m ∷ refusal-9 (zoomCount m (length c)) buffer ∷ []
+
+-- row zoom that answers a count has listed so many values, at a factor in range, and they begin the buffer
+pub zoom-left : (m : ℕ) (c buffer vs : List ℤ) (q : ℕ) → record { answer = count q; values = vs } ≡ rowZoom m c buffer →
+    (0 < m) × (m ≤ greatestFactor) × (q ≡ zoomCount m (length c)) × (take q vs ≡ zoomValues m c)
+unfolding rowZoom
+zoom-left m c buffer vs q e =
+    let size = zoomCount m (length c) in
+    let refuse : ℕ → Evaluated = λ k. record { answer = refusal k; values = buffer } in
+    let outcome : Evaluated = record { answer = count size; values = overwrite (zoomValues m c) buffer } in
+    let never : (k : ℕ) → refusal k ≡ count q → ⊥ = λ k f. let z : _≡_ {A = ℕ} 0 1 = cc in omega arith in
+    let t = judged-accepted (λ (o : Evaluated). o .answer) (zoom-tests m c buffer) refuse outcome _ never e in
+    let same : q ≡ size = let f = ap (λ (o : Evaluated). o .answer) (t .1) in cc in
+    let factor = one-to greatestFactor m (t .0 .1 .1 .0) in (
+      factor .0,
+      factor .1,
+      same,
+      ap (λ (o : Evaluated). take q (o .values)) (t .1) ∙ take-at (zoomValues m c) _ q (zoom-length m c ∙ sym same),
+    )
+
 -- ---- rows
+-- the tests of the row transform
+abbrev pub row-tests : List ℤ → List ℤ → List ℤ → List Test
+row-tests s buffer work = refusal-1 (length s) ∷ refusal-2 longestRow (length s) ∷ refusal-5 (length s) work ∷ refusal-6 (length s) buffer ∷ []
+
+-- and those of row value
+abbrev pub row-value-tests : ℕ → List ℤ → Position → List Test
+row-value-tests m c p = refusal-1 (length c) ∷ refusal-2 longestRow (length c) ∷ refusal-7 m ∷ refusal-8 (offData m (length c) p) ∷ []
+
+-- what the transform leaves where it answers a count
+pub row-left : (s buffer work C W : List ℤ) (n : ℕ) → record { answer = count n; coefficients = C; work = W } ≡ rowTransform s buffer work →
+    Passed (row-tests s buffer work) × (n ≡ length s) × (take n C ≡ rowCoefficients s) × (n ≤ length C)
+unfolding rowTransform
+row-left s buffer work C W n e =
+    transform-taken (row-tests s buffer work) (length s) (workWords (length s)) (rowCoefficients s) buffer work C W n (row-length s) e
+
 -- a row of n samples was taken, and the coefficients of it that are in the buffer are accurate
 pub record RowTaken (s C : List ℤ) (n : ℕ) : Type 0 where
   pub count : n ≡ length s
@@ -63,11 +100,8 @@ pub record RowTaken (s C : List ℤ) (n : ℕ) : Type 0 where
 -- from the two clauses of the row transform
 pub row-taken : (s buffer work C W : List ℤ) (n : ℕ) →
     record { answer = count n; coefficients = C; work = W } ≡ rowTransform s buffer work → RowAccurate s C → RowTaken s C n
-unfolding rowTransform
 row-taken s buffer work C W n e a =
-    let t =
-    transform-taken (refusal-1 (length s) ∷ refusal-2 longestRow (length s) ∷ refusal-5 (length s) work ∷ refusal-6 (length s) buffer ∷ [])
-    (length s) (workWords (length s)) (rowCoefficients s) buffer work C W n (row-length s) e in
+    let t = row-left s buffer work C W n e in
     record {
       count = t .1;
       some = omega (arith, eqb-false (length s) 0 (t .0 .0));
@@ -89,10 +123,7 @@ module _ (s C : List ℤ) (n : ℕ) (taken : RowTaken s C n) where
   pub row-value-near : (m : ℕ) (p : Position) (v : ℤ) → rowValue m (take n C) p ≡ value v → RowValueAccurate m s p v
   unfolding rowValue
   row-value-near m p v e =
-      let t =
-      value-taken
-      (refusal-1 (length (take n C)) ∷ refusal-2 longestRow (length (take n C)) ∷ refusal-7 m ∷ refusal-8 (offData m (length (take n C)) p) ∷ [])
-      v (valueInRow m (take n C) p) e in
+      let t = value-taken (row-value-tests m (take n C) p) v (valueInRow m (take n C) p) e in
       let factor = one-to greatestFactor m (t .0 .1 .1 .0) in
       let on = on-data m (length (take n C)) p (omega (arith, long, taken .some, taken .count)) (t .0 .1 .1 .1 .0) in
       rw (t .1) (row-value-accurate m (factor .0) s (take n C) p (omega (arith, on .0)) (omega (arith, taken .some, taken .count)) long near)
@@ -102,9 +133,7 @@ module _ (s C : List ℤ) (n : ℕ) (taken : RowTaken s C n) where
   unfolding rowValue
   row-value-returns m k some small below =
       let l = take n C in
-      judged-passed
-      (refusal-1 (length l) ∷ refusal-2 longestRow (length l) ∷ refusal-7 m ∷ refusal-8 (offData m (length l) (record { k = k; j = 0 })) ∷ [])
-      refusal (value (valueInRow m l (record { k = k; j = 0 }))) (
+      judged-passed (row-value-tests m l (record { k = k; j = 0 })) refusal (value (valueInRow m l (record { k = k; j = 0 }))) (
         ne-eqb (length l) 0 (λ e. omega (arith, long, taken .some, taken .count)),
         (
           le-ltb longestRow (length l) (omega (arith, long, taken .short, taken .count)),
@@ -120,23 +149,17 @@ module _ (s C : List ℤ) (n : ℕ) (taken : RowTaken s C n) where
     values : (i : ℕ) → i < q → at vs i ≡ valueInRow m (take n C) (zoomPosition m i)
 
   listed : (m : ℕ) (buffer vs : List ℤ) (q : ℕ) → record { answer = count q; values = vs } ≡ rowZoom m (take n C) buffer → Listed m vs q
-  unfolding rowZoom zoomValues
+  unfolding zoomValues
   listed m buffer vs q e =
       let l = take n C in
-      let size = zoomCount m (length l) in
-      let conditions = refusal-1 (length l) ∷ refusal-2 longestRow (length l) ∷ refusal-7 m ∷ refusal-9 size buffer ∷ [] in
-      let refuse : ℕ → Evaluated = λ k. record { answer = refusal k; values = buffer } in
-      let outcome : Evaluated = record { answer = count size; values = overwrite (zoomValues m l) buffer } in
-      let never : (k : ℕ) → refusal k ≡ count q → ⊥ = λ k f. let z : _≡_ {A = ℕ} 0 1 = cc in omega arith in
-      let t = judged-accepted (λ (o : Evaluated). o .answer) conditions refuse outcome _ never e in
-      let same : q ≡ size = let f = ap (λ (o : Evaluated). o .answer) (t .1) in cc in
+      let t = zoom-left m l buffer vs q e in
       record {
-        factor = one-to greatestFactor m (t .0 .1 .1 .0);
-        count = same ∙ ap (zoomCount m) (long ∙ sym (taken .count));
+        factor = (t .0, t .1);
+        count = t .2 ∙ ap (zoomCount m) (long ∙ sym (taken .count));
         values = λ i h.
-            ap (λ (o : Evaluated). at (o .values) i) (t .1)
-            ∙ List·getD-append (zoomValues m l) (drop (length (zoomValues m l)) buffer) (pos 0) i (omega (arith, same, zoom-length m l))
-            ∙ tabulate-from-zero _ size i (omega (arith, same));
+            sym (getD-take q vs i (pos 0) h)
+            ∙ ap (λ k. at k i) (t .3)
+            ∙ tabulate-from-zero _ (zoomCount m (length l)) i (omega (arith, t .2));
       }
 
   -- every value that row zoom lists of them is within 19/32
@@ -162,6 +185,24 @@ module _ (s C : List ℤ) (n : ℕ) (taken : RowTaken s C n) where
       pred-le h = omega arith
 
 -- ---- pictures
+-- the tests of the picture transform
+abbrev pub picture-tests : Shape → List ℤ → List ℤ → List ℤ → List Test
+picture-tests d p buffer work = refusal-3 d ∷ refusal-4-pixels d p ∷ refusal-5 (max (d .width) (d .height)) work ∷ refusal-6 (area d) buffer ∷ []
+
+-- and those of picture value
+abbrev pub picture-value-tests : ℕ → Shape → List ℤ → Position → Position → List Test
+picture-value-tests m d c px py =
+    refusal-3 d ∷ refusal-4-coefficients d c ∷ refusal-7 m ∷ refusal-8 (offData m (d .width) px || offData m (d .height) py) ∷ []
+
+-- what the transform leaves where it answers a count
+pub picture-left : (d : Shape) (p buffer work C W : List ℤ) (n : ℕ) →
+    record { answer = count n; coefficients = C; work = W } ≡ pictureTransform d p buffer work →
+    Passed (picture-tests d p buffer work) × (n ≡ area d) × (take n C ≡ pictureCoefficients d p) × (n ≤ length C)
+unfolding pictureTransform
+picture-left d p buffer work C W n e =
+    transform-taken (picture-tests d p buffer work) (area d) (workWords (max (d .width) (d .height))) (pictureCoefficients d p) buffer work C W n
+    (picture-length d p) e
+
 -- a picture of n pixels was taken, and the coefficients of it that are in the buffer are accurate
 pub record PictureTaken (d : Shape) (p C : List ℤ) (n : ℕ) : Type 0 where
   pub count : n ≡ area d
@@ -173,12 +214,8 @@ pub record PictureTaken (d : Shape) (p C : List ℤ) (n : ℕ) : Type 0 where
 -- from the two clauses of the picture transform
 pub picture-taken : (d : Shape) (p buffer work C W : List ℤ) (n : ℕ) →
     record { answer = count n; coefficients = C; work = W } ≡ pictureTransform d p buffer work → PictureAccurate d p C → PictureTaken d p C n
-unfolding pictureTransform
 picture-taken d p buffer work C W n e a =
-    let longer = max (d .width) (d .height) in
-    let t =
-    transform-taken (refusal-3 d ∷ refusal-4-pixels d p ∷ refusal-5 longer work ∷ refusal-6 (area d) buffer ∷ [])
-    (area d) (workWords longer) (pictureCoefficients d p) buffer work C W n (picture-length d p) e in
+    let t = picture-left d p buffer work C W n e in
     record { count = t .1; sides = t .0 .0; room = t .3; begins = t .2; accurate = a }
 
 module _ (d : Shape) (p C : List ℤ) (n : ℕ) (taken : PictureTaken d p C n) where
@@ -203,16 +240,11 @@ module _ (d : Shape) (p C : List ℤ) (n : ℕ) (taken : PictureTaken d p C n) w
         rw (getD-take n C (place d x y) (pos 0) (omega (arith, taken .count, place-below d x y h g))) (taken .accurate .accurate c solves x y h g);
   }
 
-  -- the tests of picture value
-  abbrev tests : ℕ → Position → Position → List Test
-  tests m px py =
-      refusal-3 d ∷ refusal-4-coefficients d (take n C) ∷ refusal-7 m ∷ refusal-8 (offData m (d .width) px || offData m (d .height) py) ∷ []
-
   -- whatever value picture value answers of them is within 15/16
   pub picture-value-near : (m : ℕ) (px py : Position) (v : ℤ) → pictureValue m d (take n C) px py ≡ value v → PictureValueAccurate m d p px py v
   unfolding pictureValue
   picture-value-near m px py v e =
-      let t = value-taken (tests m px py) v (valueInPicture m d (take n C) px py) e in
+      let t = value-taken (picture-value-tests m d (take n C) px py) v (valueInPicture m d (take n C) px py) e in
       let factor = one-to greatestFactor m (t .0 .1 .1 .0) in
       let both = or-eq-false-eq-eq-false-and-eq-false (offData m (d .width) px) (offData m (d .height) py) .0 (t .0 .1 .1 .1 .0) in
       let on-x = on-data m (d .width) px (wide .0) (both .0) in
@@ -225,7 +257,7 @@ module _ (d : Shape) (p C : List ℤ) (n : ℕ) (taken : PictureTaken d p C n) w
       pictureValue m d (take n C) (record { k = x; j = 0 }) (record { k = y; j = 0 }) ≡ value (pos 256 *ℤ pixel d p x y)
   unfolding pictureValue
   picture-value-returns m x y some small left above =
-      judged-passed (tests m (record { k = x; j = 0 }) (record { k = y; j = 0 })) refusal
+      judged-passed (picture-value-tests m d (take n C) (record { k = x; j = 0 }) (record { k = y; j = 0 })) refusal
       (value (valueInPicture m d (take n C) (record { k = x; j = 0 }) (record { k = y; j = 0 }))) (
         taken .sides,
         (

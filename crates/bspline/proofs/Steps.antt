@@ -1,5 +1,5 @@
 -- One step of each recursion and one coefficient, as inequalities: the rounded number times its divisor is at most half the divisor from what was divided.
--- They follow from `round-near` alone, which holds whatever the rule for a tie is, and they are all that the theory takes from the rounding.
+-- They follow from `round-near` alone, which holds whatever the rule for a tie is, and they are all that the ranges and distances take from the rounding.
 -- Assumes nothing.
 use mathlib.Core.Path.{_≡_}
 use Prim.Native.Nat.{_^_, _≤_}

@@ -61,7 +61,7 @@ examples =
     -- M1, M2, M3, M4
     rounds (pos (2 ^ 30)) (pos 1)
     ∷ rounds (pos (2 ^ 30 - 1)) (pos 0)
-    ∷ rounds (minus (2 ^ 30)) (pos 0)
+    ∷ rounds (minus (2 ^ 30)) (minus 1)
     ∷ rounds (minus (2 ^ 30 + 1)) (minus 1)
     -- M5, three times, and M6
     ∷ reads 4 (minus 1) 1

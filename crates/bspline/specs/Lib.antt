@@ -10,4 +10,5 @@ pub mod Values
 pub mod Limits
 pub mod Refusals
 pub mod Outcomes
+pub mod Negation
 pub mod Examples

@@ -32,10 +32,10 @@ pub(crate) fn anticausal_step(p: i64, b: i64) -> i64
     scale_down(POLE * (p - b))
 }
 
-// The coefficient of b: 6 × b / 16 rounded to nearest. 243 × 2^24 is the greatest b of a picture's column pass.
+// The coefficient of b: 6 × b / 16 rounded to nearest, by 3 × b / 8. 243 × 2^24 is the greatest b of a picture's column pass.
 pub(crate) fn coefficient_of(b: i64) -> i32
     requires { ⌜ natAbs b ≤ 243 * 2 ^ 24 ⌝ }
     ensures { λ r. ⌜ r ≡ coefficient b ⌝ }
 {
-    round_div(6 * b, 16) as i32
+    round_div(3 * b, 8) as i32
 }

@@ -139,8 +139,8 @@ floor-values = (refl, refl, refl, refl)
 modulo-values : (modulo (pos 7) 2 ≡ 1) × (modulo (negsuc 6) 2 ≡ 1) × (modulo (negsuc 7) 2 ≡ 0) × (modulo (negsuc 6) 5 ≡ 3)
 modulo-values = (refl, refl, refl, refl)
 
--- a tie goes up: 1/2, -1/2, 3/2, -3/2
-round-ties : (round (pos 1) 2 ≡ pos 1) × (round (negsuc 0) 2 ≡ pos 0) × (round (pos 3) 2 ≡ pos 2) × (round (negsuc 2) 2 ≡ negsuc 0)
+-- a tie goes away from zero: 1/2, -1/2, 3/2, -3/2
+round-ties : (round (pos 1) 2 ≡ pos 1) × (round (negsuc 0) 2 ≡ negsuc 0) × (round (pos 3) 2 ≡ pos 2) × (round (negsuc 2) 2 ≡ negsuc 1)
 unfolding round
 round-ties = (refl, refl, refl, refl)
 

@@ -1,2 +1,3 @@
--- What the contract of the caller cites.
+-- What the contracts of the caller cite.
+pub mod Asked
 pub mod Returns

@@ -1,2 +1,3 @@
 -- What belongs to more than one function.
 pub mod Narrow
+pub mod Nearest

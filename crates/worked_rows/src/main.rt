@@ -84,6 +84,8 @@ fn zoom_longest(room: usize) {
 
 fn main() {
     zoom_three(0, 1, 4);
+    zoom_three(0, 4, 16);
+    zoom_three(0, -4, 16);
     zoom_three(0, 1, 0);
     zoom_three(0, 1, GREATEST_FACTOR + 1);
     constant(-32768);

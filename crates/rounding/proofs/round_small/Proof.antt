@@ -1,10 +1,10 @@
 -- `rounding::round_small` meets its contract: moved up by 2^27 quotients the dividend is not negative, and the unsigned quotient less 2^27
 -- is the floor. Assumes nothing.
 use mathlib.Core.Path.{_≡_, _∙_}
-use Prim.Native.Nat.{_+_, _*_, _/_, _≤_, _<_, _^_}
+use Prim.Native.Nat.{_*_, _/_, _≤_, _<_, _^_}
 use native.Mathlib.Nat.{div-le-self}
 use native.Mathlib.Omega.{arith}
-use borrow.Author.Needs.{sfits-of}
+use borrow.Author.Needs.{needs, sfits-of}
 use lib.IntN.{ℤ, pos, negsuc, natAbs, _+ℤ_, _-ℤ_, _*ℤ_}
 use lib.Signed.{_≤ℤ_, _<ℤ_, yes-nonNeg}
 use mir.Facts.{toZ-ofZ, toZ-pos, sfits-widen}
@@ -17,85 +17,109 @@ use Rattle.integers.proofs.Laws.{<ℤ→≤ℤ}
 use Rattle.integers.proofs.Linear.{reify, read, show}
 use Rattle.integers.proofs.Machine.{floor-moved}
 use Rattle.integers.proofs.Parts.{of-lt}
+use Rattle.rounding.specs.Half.{half}
 use Rattle.rounding.proofs.Narrow.{quotient-fits}
+use Rattle.rounding.proofs.Nearest.{before-floor, before-floor-rounds, before-floor-up, before-floor-size}
 use Rattle.rounding.proofs.round_small.Statement.{statement}
 use Rattle.rounding.proofs.round_small.Tie as tie
 
--- what the arguments a and d and the dividend r satisfy
-pub record Small (a d r : ℤ) : Type 0 where
+-- what the arguments satisfy
+pub record Small (a d : ℤ) : Type 0 where
   pub above : pos 0 <ℤ d
   pub divisor : natAbs d ≤ 2 ^ 20
   pub size : natAbs a ≤ 2 ^ 27 * natAbs d
-  pub up : a ≤ℤ r
-  pub bound : natAbs r ≤ natAbs a + natAbs d
-  pub rounds : floor r (natAbs d) ≡ round a (natAbs d)
 
 abbrev moved : ℤ → ℤ → ℤ
-moved d r = r +ℤ pos 134217728 *ℤ d
+moved a d = before-floor a d +ℤ pos 134217728 *ℤ d
 
-step-fits : {a d r : ℤ} → Small a d r → SFits w64 (pos 134217728 *ℤ d)
-step-fits {a} {d} s = show (simp reify tt) (omega (arith, read (s .divisor) (simp reify tt)))
+module _ {a d : ℤ} (s : Small a d) where
+  step-fits : SFits w64 (pos 134217728 *ℤ d)
+  step-fits = show (simp reify tt) (omega (arith, read (s .divisor) (simp reify tt)))
 
-not-negative : {a d r : ℤ} → Small a d r → pos 0 ≤ℤ moved d r
-not-negative {d = negsuc n} s = absurd (s .above .lt)
-not-negative {d = pos n} s = show (simp reify tt) (omega (arith, read (s .size) (simp reify tt), read (s .up) (simp reify tt)))
+  before-floor-fits : SFits w64 (before-floor a d)
+  before-floor-fits = fits-abs w64 (before-floor a d) (omega (arith, before-floor-size a d (s .above), s .divisor, s .size))
 
-moved-size : {a d r : ℤ} → Small a d r → natAbs (moved d r) < 2 ^ 50
-moved-size {a} {d} {r} s = omega (arith, abs-add r (pos 134217728 *ℤ d), abs-mul (pos 134217728) d, s .divisor, s .size, s .bound)
+  not-negative : pos 0 ≤ℤ moved a d
+  not-negative = above d (s .above) (s .size) (before-floor-up a d)
+    where
+      above : {r : ℤ} (d : ℤ) → pos 0 <ℤ d → natAbs a ≤ 2 ^ 27 * natAbs d → a ≤ℤ r → pos 0 ≤ℤ (r +ℤ pos 134217728 *ℤ d)
+      above (negsuc n) h l k = absurd (h .lt)
+      above (pos n) h l k = show (simp reify tt) (omega (arith, read l (simp reify tt), read k (simp reify tt)))
 
-moved-fits : {a d r : ℤ} → Small a d r → SFits w64 (moved d r)
-moved-fits {d = d} {r} s = fits-abs w64 (moved d r) (omega (arith, moved-size s))
+  moved-size : natAbs (moved a d) < 2 ^ 50
+  moved-size =
+      omega (arith, abs-add (before-floor a d) (pos 134217728 *ℤ d), abs-mul (pos 134217728) d, s .divisor, s .size, before-floor-size a d (s .above))
 
-quotient : {a d r : ℤ} → Small a d r → natAbs (moved d r) / natAbs d < 2 ^ 50
-quotient {d = d} {r} s = omega (arith, moved-size s, div-le-self (natAbs (moved d r)) (natAbs d))
+  moved-fits : SFits w64 (moved a d)
+  moved-fits = fits-abs w64 (moved a d) (omega (arith, moved-size))
 
-result : {a d r : ℤ} → Small a d r → pos (natAbs (moved d r) / natAbs d) -ℤ pos 134217728 ≡ round a (natAbs d)
-result {d = negsuc n} s = absurd (s .above .lt)
-result {d = pos n} {r} s = floor-moved r n 134217728 (omega (arith, of-lt (s .above))) (not-negative s) ∙ s .rounds
+  quotient : natAbs (moved a d) / natAbs d < 2 ^ 50
+  quotient = omega (arith, moved-size, div-le-self (natAbs (moved a d)) (natAbs d))
 
-divisor-above : {a d r : ℤ} → Small a d r → 0 < natAbs d
-divisor-above {d = negsuc n} s = absurd (s .above .lt)
-divisor-above {d = pos n} s = omega (arith, of-lt (s .above))
+  divisor-above : 0 < natAbs d
+  divisor-above = above d (s .above)
+    where
+      above : (d : ℤ) → pos 0 <ℤ d → 0 < natAbs d
+      above (negsuc n) h = absurd (h .lt)
+      above (pos n) h = omega (arith, of-lt h)
 
-before-floor-requires : tie.Need-before-floor-requires
-before-floor-requires c κs =
-    rw (toZ-ofZ (c .fits .a), toZ-ofZ (c .fits .d)) (c .pre .0, omega (arith, c .pre .1, c .pre .2))
+  result : pos (natAbs (moved a d) / natAbs d) -ℤ pos 134217728 ≡ round a (natAbs d)
+  result = lowered (before-floor a d) d (s .above) not-negative ∙ before-floor-rounds a d (s .above)
+    where
+      lowered : (r d : ℤ) → pos 0 <ℤ d → pos 0 ≤ℤ (r +ℤ pos 134217728 *ℤ d) →
+          pos (natAbs (r +ℤ pos 134217728 *ℤ d) / natAbs d) -ℤ pos 134217728 ≡ floor r (natAbs d)
+      lowered r (negsuc n) h k = absurd (h .lt)
+      lowered r (pos n) h k = floor-moved r n 134217728 (omega (arith, of-lt h)) k
 
-module _ (c : tie.After-before-floor) where
-  dividend-fits : SFits w64 (c .before-floor .result)
-  dividend-fits = sfits-of (c .before-floor .ok)
+half-requires : tie.Need-half-requires
+half-requires c κs = search needs
 
-  small : Small (c .before .args .a) (c .before .args .d) (c .before-floor .result)
-  small =
-      let s = c .before in
-      let e = rw (toZ-ofZ (s .fits .a), toZ-ofZ (s .fits .d)) at (c .before-floor .ensures) in
-      record { above = s .pre .0; divisor = s .pre .1; size = s .pre .2; up = e .1; bound = e .2; rounds = e .0 }
+module _ (c : tie.After-half) where
+  abbrev start : tie.Start
+  start = c .before
 
-  below : natAbs (moved (c .before .args .d) (c .before-floor .result)) / natAbs (c .before .args .d) < 2 ^ 63
+  small : Small (start .args .a) (start .args .d)
+  small = record { above = start .pre .0; divisor = start .pre .1; size = start .pre .2 }
+
+  half-is : toZ w64 (ofZ w64 (c .half .result)) ≡ pos (half (start .args .a) (natAbs (start .args .d)))
+  half-is =
+      let f = start .fits .a in
+      let g = start .fits .d in
+      toZ-ofZ (sfits-of {w = w64} (c .half .ok)) ∙ (simp toZ-ofZ at (c .half .ensures))
+
+  below : natAbs (moved (start .args .a) (start .args .d)) / natAbs (start .args .d) < 2 ^ 63
   below = omega (arith, quotient small)
 
-  narrow : SFits w32 (round (c .before .args .a) (natAbs (c .before .args .d)))
-  narrow = quotient-fits (c .before .args .a) (c .before .args .d) (small .above) (small .size)
+  narrow : SFits w32 (round (start .args .a) (natAbs (start .args .d)))
+  narrow = quotient-fits (start .args .a) (start .args .d) (small .above) (small .size)
 
-  wide : SFits w64 (round (c .before .args .a) (natAbs (c .before .args .d)))
+  wide : SFits w64 (round (start .args .a) (natAbs (start .args .d)))
   wide = sfits-widen tt narrow
 
-  -- the machine's dividend, and its quotient less 2^27
+  -- the machine's sum, its dividend, and its quotient less 2^27
+  abbrev sum : ℤ
+  sum = toZ w64 (ofZ w64 (toZ w64 (ofZ w64 (start .args .a)) +ℤ toZ w64 (ofZ w64 (c .half .result))))
+
+  sum-is : sum ≡ before-floor (start .args .a) (start .args .d)
+  sum-is = rw (toZ-ofZ (start .fits .a), half-is, toZ-ofZ (before-floor-fits small))
+
   abbrev dividend : ℤ
-  dividend =
-      toZ w64 (ofZ w64 (toZ w64 (ofZ w64 (c .before-floor .result)) +ℤ toZ w64 (ofZ w64 (pos 134217728 *ℤ toZ w64 (ofZ w64 (c .before .args .d))))))
+  dividend = toZ w64 (ofZ w64 (sum +ℤ toZ w64 (ofZ w64 (pos 134217728 *ℤ toZ w64 (ofZ w64 (start .args .d))))))
 
-  dividend-is : dividend ≡ moved (c .before .args .d) (c .before-floor .result)
-  dividend-is = rw (toZ-ofZ (c .before .fits .d), toZ-ofZ dividend-fits, toZ-ofZ (step-fits small), toZ-ofZ (moved-fits small))
+  dividend-is : dividend ≡ moved (start .args .a) (start .args .d)
+  dividend-is = rw (sum-is, toZ-ofZ (start .fits .d), toZ-ofZ (step-fits small), toZ-ofZ (moved-fits small))
 
-  result-is : toZ w64 (natAbs dividend / natAbs (toZ w64 (ofZ w64 (c .before .args .d)))) -ℤ pos 134217728 ≡ round (c .before .args .a) (natAbs (c .before .args .d))
-  result-is = rw (dividend-is, toZ-ofZ (c .before .fits .d), toZ-pos w64 below) (result small)
+  result-is : toZ w64 (natAbs dividend / natAbs (toZ w64 (ofZ w64 (start .args .d)))) -ℤ pos 134217728 ≡ round (start .args .a) (natAbs (start .args .d))
+  result-is = rw (dividend-is, toZ-ofZ (start .fits .d), toZ-pos w64 below) (result small)
+
+add-moved : tie.Need-add-moved
+add-moved c = rw (toZ-ofZ (c .before .fits .a), half-is c) (before-floor-fits (small c))
 
 mul-moved : tie.Need-mul-moved
 mul-moved c = rw (toZ-ofZ (c .before .fits .d)) (step-fits (small c))
 
-add-moved : tie.Need-add-moved
-add-moved c = rw (toZ-ofZ (c .before .fits .d), toZ-ofZ (dividend-fits c), toZ-ofZ (step-fits (small c))) (moved-fits (small c))
+add-moved-2 : tie.Need-add-moved-2
+add-moved-2 c = rw (sum-is c, toZ-ofZ (c .before .fits .d), toZ-ofZ (step-fits (small c))) (moved-fits (small c))
 
 cast-quotient : tie.Need-cast-quotient
 cast-quotient c = rw (dividend-is c) (yes-nonNeg (not-negative (small c)), record { fits = omega (arith, moved-size (small c)) })
@@ -123,9 +147,10 @@ pub round-small-spec : {M : Type 1} → statement M
 round-small-spec =
     tie.close
     (tie.spec
-    before-floor-requires
-    mul-moved
+    half-requires
     add-moved
+    mul-moved
+    add-moved-2
     cast-quotient
     cast-quotient-2
     div-quotient

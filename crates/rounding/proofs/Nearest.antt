@@ -1,0 +1,42 @@
+-- The rounding to the nearest by a floor: with `half` added, the quotient rounded down is the one rounded to the nearest. Assumes nothing.
+use mathlib.Core.Path.{_≡_, refl, sym}
+use Prim.Native.Nat.{suc, _+_, _<_}
+use native.Mathlib.Omega.{arith}
+use lib.IntN.{ℤ, pos, negsuc, negℤ, natAbs, _+ℤ_}
+use lib.Signed.{_≤ℤ_, _<ℤ_}
+use Rattle.integers.specs.Division.{floor}
+use Rattle.integers.specs.Rounding.{nearest, round}
+use Rattle.integers.proofs.Absolute.{abs-add}
+use Rattle.integers.proofs.Division.{floor-unique}
+use Rattle.integers.proofs.Linear.{reify, show}
+use Rattle.integers.proofs.Parts.{of-lt}
+use Rattle.integers.proofs.Rounding.{nearest-between}
+use Rattle.rounding.specs.Half.{half}
+
+-- a with its half added
+abbrev pub before-floor : ℤ → ℤ → ℤ
+before-floor a d = a +ℤ pos (half a (natAbs d))
+
+-- its floor is a / d rounded to the nearest
+pub before-floor-rounds : (a d : ℤ) → pos 0 <ℤ d → floor (before-floor a d) (natAbs d) ≡ round a (natAbs d)
+unfolding round
+before-floor-rounds a (negsuc n) h = absurd (h .lt)
+before-floor-rounds (pos a) (pos n) h = refl
+before-floor-rounds (negsuc a) (pos n) h =
+    let between = nearest-between (suc a) n (omega (arith, of-lt h)) in
+    sym
+    (floor-unique (before-floor (negsuc a) (pos n)) (negℤ (pos (nearest (suc a) n))) n
+    (show (simp reify tt) (omega (arith, between)))
+    (show (simp reify tt) (omega (arith, between))))
+
+-- it is not below a, and less than d above it
+pub before-floor-up : (a d : ℤ) → a ≤ℤ before-floor a d
+before-floor-up a d = show (simp reify tt) (omega arith)
+
+pub before-floor-size : (a d : ℤ) → pos 0 <ℤ d → natAbs (before-floor a d) < natAbs a + natAbs d
+before-floor-size a (negsuc n) h = absurd (h .lt)
+before-floor-size a (pos n) h = omega (arith, abs-add a (pos (half a n)), below a (omega (arith, of-lt h)))
+  where
+    below : (a : ℤ) → 0 < n → half a n < n
+    below (pos a) k = omega arith
+    below (negsuc a) k = omega arith

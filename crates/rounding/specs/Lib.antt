@@ -1,0 +1,2 @@
+-- What the contracts of the roundings cite beside the definitions of `integers`.
+pub mod Half
