@@ -76,23 +76,26 @@ line-negated n t =
     ∙ ap (delivered n) (backward-neg (forward (pos 0) (window n t)))
     ∙ delivered-neg n (backward (forward (pos 0) (window n t)))
 
+-- and so are those of a line of negated data that are brought to its unit, the c-fold of each
+scaled-negated : (n c : ℕ) (t u : ℕ → ℤ) → ((k : ℕ) → u k ≡ negℤ (t k)) →
+    coefficients n (λ k. pos c *ℤ u k) ≡ negated (coefficients n (λ k. pos c *ℤ t k))
+scaled-negated n c t u e =
+    ap (coefficients n) (fun-ext (λ k. ap (λ x. pos c *ℤ x) (e k) ∙ *ℤ-negℤ (pos c) (t k))) ∙ line-negated n (λ k. pos c *ℤ t k)
+
 -- ---- rows and pictures
-pub negated-at : (l : List ℤ) (k : ℕ) → at (negated l) k ≡ negℤ (at l k)
+negated-at : (l : List ℤ) (k : ℕ) → at (negated l) k ≡ negℤ (at l k)
 negated-at l k = List·getD-map negℤ l k (pos 0)
 
 pub row-coefficients-negated : (s : List ℤ) → rowCoefficients (negated s) ≡ negated (rowCoefficients s)
 unfolding rowCoefficients
 row-coefficients-negated s =
-    ap₂ coefficients (length-map s negℤ) (fun-ext (λ k. ap (λ x. pos 65536 *ℤ x) (negated-at s k) ∙ *ℤ-negℤ (pos 65536) (at s k)))
-    ∙ line-negated (length s) (λ k. pos 65536 *ℤ at s k)
+    ap (λ n. coefficients n (λ k. pos 65536 *ℤ at (negated s) k)) (length-map s negℤ)
+    ∙ scaled-negated (length s) 65536 (at s) (at (negated s)) (negated-at s)
 
--- a picture's two passes
+-- a number of a picture after a pass
 pass-negated : (n c : ℕ) (t u : ℕ → ℤ) → ((k : ℕ) → u k ≡ negℤ (t k)) → (x : ℕ) →
     at (coefficients n (λ k. pos c *ℤ u k)) x ≡ negℤ (at (coefficients n (λ k. pos c *ℤ t k)) x)
-pass-negated n c t u e x =
-    ap (λ (v : ℕ → ℤ). at (coefficients n v) x) (fun-ext (λ k. ap (λ y. pos c *ℤ y) (e k) ∙ *ℤ-negℤ (pos c) (t k)))
-    ∙ ap (λ l. at l x) (line-negated n (λ k. pos c *ℤ t k))
-    ∙ negated-at (coefficients n (λ k. pos c *ℤ t k)) x
+pass-negated n c t u e x = ap (λ l. at l x) (scaled-negated n c t u e) ∙ negated-at (coefficients n (λ k. pos c *ℤ t k)) x
 
 pub picture-coefficients-negated : (d : Shape) (p : List ℤ) → pictureCoefficients d (negated p) ≡ negated (pictureCoefficients d p)
 unfolding pictureCoefficients raster firstPass secondPass

@@ -3,7 +3,7 @@ use mathlib.Core.Path.{_≡_, refl, sym}
 use Prim.Native.Nat.{suc, _+_, _<_}
 use native.Mathlib.Omega.{arith}
 use lib.IntN.{ℤ, pos, negsuc, negℤ, natAbs, _+ℤ_}
-use lib.Signed.{_≤ℤ_, _<ℤ_}
+use lib.Signed.{_<ℤ_}
 use Rattle.integers.specs.Division.{floor}
 use Rattle.integers.specs.Rounding.{nearest, round}
 use Rattle.integers.proofs.Absolute.{abs-add}
@@ -29,10 +29,7 @@ before-floor-rounds (negsuc a) (pos n) h =
     (show (simp reify tt) (omega (arith, between)))
     (show (simp reify tt) (omega (arith, between))))
 
--- it is not below a, and less than d above it
-pub before-floor-up : (a d : ℤ) → a ≤ℤ before-floor a d
-before-floor-up a d = show (simp reify tt) (omega arith)
-
+-- what is added is less than d
 pub before-floor-size : (a d : ℤ) → pos 0 <ℤ d → natAbs (before-floor a d) < natAbs a + natAbs d
 before-floor-size a (negsuc n) h = absurd (h .lt)
 before-floor-size a (pos n) h = omega (arith, abs-add a (pos (half a n)), below a (omega (arith, of-lt h)))

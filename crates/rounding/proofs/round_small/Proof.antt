@@ -10,7 +10,6 @@ use lib.Signed.{_≤ℤ_, _<ℤ_, yes-nonNeg}
 use mir.Facts.{toZ-ofZ, toZ-pos, sfits-widen}
 use mir.Syntax.{w32, w64}
 use mir.Val.{SFits, toZ, ofZ}
-use Rattle.integers.specs.Division.{floor}
 use Rattle.integers.specs.Rounding.{round}
 use Rattle.integers.proofs.Absolute.{abs-add, abs-mul, fits-abs}
 use Rattle.integers.proofs.Laws.{<ℤ→≤ℤ}
@@ -19,7 +18,7 @@ use Rattle.integers.proofs.Machine.{floor-moved}
 use Rattle.integers.proofs.Parts.{of-lt}
 use Rattle.rounding.specs.Half.{half}
 use Rattle.rounding.proofs.Narrow.{quotient-fits}
-use Rattle.rounding.proofs.Nearest.{before-floor, before-floor-rounds, before-floor-up, before-floor-size}
+use Rattle.rounding.proofs.Nearest.{before-floor, before-floor-rounds, before-floor-size}
 use Rattle.rounding.proofs.round_small.Statement.{statement}
 use Rattle.rounding.proofs.round_small.Tie as tie
 
@@ -32,44 +31,34 @@ pub record Small (a d : ℤ) : Type 0 where
 abbrev moved : ℤ → ℤ → ℤ
 moved a d = before-floor a d +ℤ pos 134217728 *ℤ d
 
-module _ {a d : ℤ} (s : Small a d) where
-  step-fits : SFits w64 (pos 134217728 *ℤ d)
-  step-fits = show (simp reify tt) (omega (arith, read (s .divisor) (simp reify tt)))
+step-fits : {a d : ℤ} → Small a d → SFits w64 (pos 134217728 *ℤ d)
+step-fits {a} {d} s = show (simp reify tt) (omega (arith, read (s .divisor) (simp reify tt)))
 
-  before-floor-fits : SFits w64 (before-floor a d)
-  before-floor-fits = fits-abs w64 (before-floor a d) (omega (arith, before-floor-size a d (s .above), s .divisor, s .size))
+before-floor-fits : {a d : ℤ} → Small a d → SFits w64 (before-floor a d)
+before-floor-fits {a} {d} s = fits-abs w64 (before-floor a d) (omega (arith, before-floor-size a d (s .above), s .divisor, s .size))
 
-  not-negative : pos 0 ≤ℤ moved a d
-  not-negative = above d (s .above) (s .size) (before-floor-up a d)
-    where
-      above : {r : ℤ} (d : ℤ) → pos 0 <ℤ d → natAbs a ≤ 2 ^ 27 * natAbs d → a ≤ℤ r → pos 0 ≤ℤ (r +ℤ pos 134217728 *ℤ d)
-      above (negsuc n) h l k = absurd (h .lt)
-      above (pos n) h l k = show (simp reify tt) (omega (arith, read l (simp reify tt), read k (simp reify tt)))
+not-negative : {a d : ℤ} → Small a d → pos 0 ≤ℤ moved a d
+not-negative {d = negsuc n} s = absurd (s .above .lt)
+not-negative {a} {d = pos n} s = show (simp reify tt) (omega (arith, read (s .size) (simp reify tt)))
 
-  moved-size : natAbs (moved a d) < 2 ^ 50
-  moved-size =
-      omega (arith, abs-add (before-floor a d) (pos 134217728 *ℤ d), abs-mul (pos 134217728) d, s .divisor, s .size, before-floor-size a d (s .above))
+moved-size : {a d : ℤ} → Small a d → natAbs (moved a d) < 2 ^ 50
+moved-size {a} {d} s =
+    omega (arith, abs-add (before-floor a d) (pos 134217728 *ℤ d), abs-mul (pos 134217728) d, s .divisor, s .size, before-floor-size a d (s .above))
 
-  moved-fits : SFits w64 (moved a d)
-  moved-fits = fits-abs w64 (moved a d) (omega (arith, moved-size))
+moved-fits : {a d : ℤ} → Small a d → SFits w64 (moved a d)
+moved-fits {a} {d} s = fits-abs w64 (moved a d) (omega (arith, moved-size s))
 
-  quotient : natAbs (moved a d) / natAbs d < 2 ^ 50
-  quotient = omega (arith, moved-size, div-le-self (natAbs (moved a d)) (natAbs d))
+quotient : {a d : ℤ} → Small a d → natAbs (moved a d) / natAbs d < 2 ^ 50
+quotient {a} {d} s = omega (arith, moved-size s, div-le-self (natAbs (moved a d)) (natAbs d))
 
-  divisor-above : 0 < natAbs d
-  divisor-above = above d (s .above)
-    where
-      above : (d : ℤ) → pos 0 <ℤ d → 0 < natAbs d
-      above (negsuc n) h = absurd (h .lt)
-      above (pos n) h = omega (arith, of-lt h)
+result : {a d : ℤ} → Small a d → pos (natAbs (moved a d) / natAbs d) -ℤ pos 134217728 ≡ round a (natAbs d)
+result {d = negsuc n} s = absurd (s .above .lt)
+result {a} {d = pos n} s =
+    floor-moved (before-floor a (pos n)) n 134217728 (omega (arith, of-lt (s .above))) (not-negative s) ∙ before-floor-rounds a (pos n) (s .above)
 
-  result : pos (natAbs (moved a d) / natAbs d) -ℤ pos 134217728 ≡ round a (natAbs d)
-  result = lowered (before-floor a d) d (s .above) not-negative ∙ before-floor-rounds a d (s .above)
-    where
-      lowered : (r d : ℤ) → pos 0 <ℤ d → pos 0 ≤ℤ (r +ℤ pos 134217728 *ℤ d) →
-          pos (natAbs (r +ℤ pos 134217728 *ℤ d) / natAbs d) -ℤ pos 134217728 ≡ floor r (natAbs d)
-      lowered r (negsuc n) h k = absurd (h .lt)
-      lowered r (pos n) h k = floor-moved r n 134217728 (omega (arith, of-lt h)) k
+divisor-above : {a d : ℤ} → Small a d → 0 < natAbs d
+divisor-above {d = negsuc n} s = absurd (s .above .lt)
+divisor-above {d = pos n} s = omega (arith, of-lt (s .above))
 
 half-requires : tie.Need-half-requires
 half-requires c κs = search needs
