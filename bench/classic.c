@@ -2,7 +2,8 @@
  *
  * A line is scaled by 6 and goes through one recursion forward and one backward with the pole sqrt(3) - 2, in place. The forward recursion
  * starts from a sum over the mirrored line, cut off where its terms fall below a tolerance, the backward one from a closed formula. Results
- * are in counts and not exact to the bit. Nothing is refused: a line has at least one sample, and every buffer is as long as it must be.
+ * are in counts and not exact to the bit. Nothing is refused: a line has at least one sample, every buffer is as long as it must be, and every
+ * position is on the data.
  */
 #include <stddef.h>
 #include <stdint.h>
@@ -83,28 +84,36 @@ void classic_picture_transform(const int16_t *pixels, size_t width, size_t heigh
   }
 }
 
-/* The coefficient at a place from -1 to n + 1, past the ends by the mirrored index. */
-static double mirrored(const double *coefficients, size_t n, ptrdiff_t place) {
+/* The place that an index from -1 to n + 1 reads in a line of n, past the ends by the mirrored index. */
+static size_t mirrored_place(size_t n, ptrdiff_t place) {
   ptrdiff_t last = (ptrdiff_t)n - 1;
   if (last == 0)
-    return coefficients[0];
+    return 0;
   if (place < 0)
     place = -place;
   place %= 2 * last;
-  return coefficients[place > last ? 2 * last - place : place];
+  return (size_t)(place > last ? 2 * last - place : place);
+}
+
+static double mirrored(const double *coefficients, size_t n, ptrdiff_t place) {
+  return coefficients[mirrored_place(n, place)];
+}
+
+/* The four weights at the fraction j / factor. */
+static inline void weigh(size_t j, size_t factor, double weights[4]) {
+  double x = (double)j / (double)factor;
+  double y = 1.0 - x;
+  weights[0] = y * y * y / 6.0;
+  weights[1] = 2.0 / 3.0 - x * x * (1.0 + y) / 2.0;
+  weights[2] = 2.0 / 3.0 - y * y * (1.0 + x) / 2.0;
+  weights[3] = x * x * x / 6.0;
 }
 
 /* The four weights of each numerator are computed once for the whole row. */
 void classic_row_zoom(const double *coefficients, size_t n, size_t factor, double *values) {
   double weights[LARGEST_FACTOR][4];
-  for (size_t j = 0; j < factor; j++) {
-    double x = (double)j / (double)factor;
-    double y = 1.0 - x;
-    weights[j][0] = y * y * y / 6.0;
-    weights[j][1] = 2.0 / 3.0 - x * x * (1.0 + y) / 2.0;
-    weights[j][2] = 2.0 / 3.0 - y * y * (1.0 + x) / 2.0;
-    weights[j][3] = x * x * x / 6.0;
-  }
+  for (size_t j = 0; j < factor; j++)
+    weigh(j, factor, weights[j]);
   for (size_t k = 0; k < n; k++) {
     double a, b, c, d;
     if (k >= 1 && k + 2 < n) {
@@ -124,4 +133,42 @@ void classic_row_zoom(const double *coefficients, size_t n, size_t factor, doubl
       values[j] = weights[j][0] * a + weights[j][1] * b + weights[j][2] * c + weights[j][3] * d;
     values += count;
   }
+}
+
+/* The four places around the place k of a line of n; only at the ends do they need the mirrored index. */
+static inline void places_around(size_t k, size_t n, size_t places[4]) {
+  int inside = k >= 1 && k + 2 < n;
+  places[0] = inside ? k - 1 : mirrored_place(n, (ptrdiff_t)k - 1);
+  places[1] = k;
+  places[2] = inside ? k + 1 : mirrored_place(n, (ptrdiff_t)k + 1);
+  places[3] = inside ? k + 2 : mirrored_place(n, (ptrdiff_t)k + 2);
+}
+
+static inline double weighted(const double *line, const size_t places[4], const double weights[4]) {
+  return weights[0] * line[places[0]] + weights[1] * line[places[1]] + weights[2] * line[places[2]] + weights[3] * line[places[3]];
+}
+
+/* The position is k + j / factor. */
+double classic_row_value(const double *coefficients, size_t n, size_t k, size_t j, size_t factor) {
+  size_t places[4];
+  double weights[4];
+  places_around(k, n, places);
+  weigh(j, factor, weights);
+  return weighted(coefficients, places, weights);
+}
+
+/* The positions are kx + jx / factor in a row and ky + jy / factor in a column. */
+double classic_picture_value(const double *coefficients, size_t width, size_t height, size_t kx, size_t jx, size_t ky, size_t jy, size_t factor) {
+  size_t columns[4], rows[4];
+  double along_x[4], along_y[4];
+  places_around(kx, width, columns);
+  places_around(ky, height, rows);
+  weigh(jx, factor, along_x);
+  weigh(jy, factor, along_y);
+  /* Written out, since gcc makes slower code of a loop over the four rows. */
+  double a = weighted(coefficients + rows[0] * width, columns, along_x);
+  double b = weighted(coefficients + rows[1] * width, columns, along_x);
+  double c = weighted(coefficients + rows[2] * width, columns, along_x);
+  double d = weighted(coefficients + rows[3] * width, columns, along_x);
+  return along_y[0] * a + along_y[1] * b + along_y[2] * c + along_y[3] * d;
 }

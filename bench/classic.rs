@@ -12,6 +12,25 @@ extern "C" {
     );
 
     fn classic_row_zoom(coefficients: *const f64, n: usize, factor: usize, values: *mut f64);
+
+    fn classic_row_value(
+        coefficients: *const f64,
+        n: usize,
+        k: usize,
+        j: usize,
+        factor: usize,
+    ) -> f64;
+
+    fn classic_picture_value(
+        coefficients: *const f64,
+        width: usize,
+        height: usize,
+        kx: usize,
+        jx: usize,
+        ky: usize,
+        jy: usize,
+        factor: usize,
+    ) -> f64;
 }
 
 pub fn row_transform(samples: &[i16], coefficients: &mut [f64]) {
@@ -54,5 +73,36 @@ pub fn row_zoom(coefficients: &[f64], factor: usize, values: &mut [f64]) {
             factor,
             values.as_mut_ptr(),
         );
+    }
+}
+
+/// What is read depends on k alone, so that only k is tested: the test is in the time of each value.
+pub fn row_value(coefficients: &[f64], (k, j): (usize, usize), factor: usize) -> f64 {
+    assert!(k < coefficients.len());
+    // SAFETY: as above, and k is a place of the slice.
+    unsafe { classic_row_value(coefficients.as_ptr(), coefficients.len(), k, j, factor) }
+}
+
+pub fn picture_value(
+    coefficients: &[f64],
+    width: usize,
+    height: usize,
+    x: (usize, usize),
+    y: (usize, usize),
+    factor: usize,
+) -> f64 {
+    assert!(coefficients.len() == width * height && x.0 < width && y.0 < height);
+    // SAFETY: as above, with a place along each side.
+    unsafe {
+        classic_picture_value(
+            coefficients.as_ptr(),
+            width,
+            height,
+            x.0,
+            x.1,
+            y.0,
+            y.1,
+            factor,
+        )
     }
 }

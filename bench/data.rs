@@ -7,7 +7,7 @@ const WAVE: [i64; 8] = [0, 5, 8, 5, 0, -5, -8, -5];
 const SECTION: usize = 512;
 
 /// 64 pseudo-random bits.
-fn number(repetition: u64, place: u64) -> u64 {
+pub fn number(repetition: u64, place: u64) -> u64 {
     let mut bits = (repetition << 32 | place).wrapping_mul(0x9E37_79B9_7F4A_7C15);
     bits = (bits ^ (bits >> 30)).wrapping_mul(0xBF58_476D_1CE4_E5B9);
     bits = (bits ^ (bits >> 27)).wrapping_mul(0x94D0_49BB_1331_11EB);

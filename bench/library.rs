@@ -30,6 +30,26 @@ extern "C" {
         values_length: usize,
     ) -> i64;
 
+    fn harness_row_value(
+        coefficients: *const i32,
+        coefficients_length: usize,
+        k: usize,
+        j: usize,
+        factor: usize,
+    ) -> i64;
+
+    fn harness_picture_value(
+        coefficients: *const i32,
+        coefficients_length: usize,
+        width: usize,
+        height: usize,
+        kx: usize,
+        jx: usize,
+        ky: usize,
+        jy: usize,
+        factor: usize,
+    ) -> i64;
+
     fn harness_wav_read(
         bytes: *const u8,
         bytes_length: usize,
@@ -100,8 +120,40 @@ pub fn row_zoom(coefficients: &[i32], factor: usize, values: &mut [i32]) -> i64 
 }
 
 #[inline]
-pub fn wav_read(bytes: &[u8], samples: &mut [i16]) -> i64 {
+pub fn row_value(coefficients: &[i32], position: (usize, usize), factor: usize) -> i64 {
+    let (k, j) = position;
+    // SAFETY: the pointer and the length are those of a slice, which is only read.
+    unsafe { harness_row_value(coefficients.as_ptr(), coefficients.len(), k, j, factor) }
+}
+
+#[inline]
+pub fn picture_value(
+    coefficients: &[i32],
+    width: usize,
+    height: usize,
+    x: (usize, usize),
+    y: (usize, usize),
+    factor: usize,
+) -> i64 {
     // SAFETY: as above.
+    unsafe {
+        harness_picture_value(
+            coefficients.as_ptr(),
+            coefficients.len(),
+            width,
+            height,
+            x.0,
+            x.1,
+            y.0,
+            y.1,
+            factor,
+        )
+    }
+}
+
+#[inline]
+pub fn wav_read(bytes: &[u8], samples: &mut [i16]) -> i64 {
+    // SAFETY: each pointer and length are those of a slice, and the slice that is written is lent mutably.
     unsafe {
         harness_wav_read(
             bytes.as_ptr(),

@@ -34,14 +34,21 @@ mod onsets;
 mod rust;
 mod wave;
 
+use std::hint::black_box;
 use std::process::ExitCode;
 use std::time::{Duration, Instant};
 
-/// What an operation reads: samples or pixels, or the coefficients of samples; in C these are in double precision.
+/// What an operation reads: samples or pixels, or their coefficients, which in C are in double precision. One that gives a value reads a position
+/// along a row, or along both sides of a picture: k, the numerator j, and the factor. Factor and side stand here for the compiler not to know
+/// them, as it does not when it builds the library.
 struct Input {
     samples: Vec<i16>,
     coefficients: Vec<i32>,
     real_coefficients: Vec<f64>,
+    x: Vec<(usize, usize)>,
+    y: Vec<(usize, usize)>,
+    side: usize,
+    factor: usize,
 }
 
 /// What an operation answers and writes. C answers nothing and writes numbers in double precision: a row, a picture or values, and a line.
@@ -55,16 +62,21 @@ struct Output {
 
 type Operation = fn(&Input, &mut Output);
 
-/// One line of the table: what is measured, how often, and how many numbers it reads, writes and works in. Coefficients are those of the
-/// samples of a row; an operation that reads no coefficients has 0 of them. The line is that of C. A number of the library is `unit` times the
-/// one of C, and may differ from it by `distance`: that is at least what is proved of the library's distance to the exact number, and some room
-/// for the error of C. `before` is the operation of the earlier version.
+/// Makes the coefficients of the samples and answers as the library's transform does.
+type Making = fn(&mut Input) -> i64;
+
+/// One line of the table: what is measured, how often, and how many numbers it reads, writes and works in. `coefficients` makes them, for an
+/// operation that reads them. One that gives a value is called for each number that is written, at a position of its own; `positions` are the
+/// length of the row, or of each side of the picture, and the factor. The line is that of C. A number of the library is `unit` times the one of
+/// C, and may differ from it by `distance`: that is at least what is proved of the library's distance to the exact number, and some room for the
+/// error of C. `before` is the operation of the earlier version.
 struct Case {
     name: &'static str,
     title: &'static str,
     repetitions: u64,
     samples: usize,
-    coefficients: usize,
+    coefficients: Option<Making>,
+    positions: Option<(usize, usize)>,
     numbers: usize,
     work: usize,
     line: usize,
@@ -80,13 +92,21 @@ const ROW: usize = rust::LONGEST_ROW;
 const SIDE: usize = rust::LONGEST_SIDE;
 const FACTOR: usize = rust::LARGEST_FACTOR;
 
-const CASES: [Case; 3] = [
+/// One value takes too little time for the clock: a repetition asks for this many, and the time is that of all.
+const VALUES: usize = 4096;
+
+/// Where the numbers of the positions begin among those of a repetition: no sample takes one of them.
+const FIRST_X: u64 = 1 << 30;
+const FIRST_Y: u64 = 3 << 30;
+
+const CASES: [Case; 5] = [
     Case {
         name: "row_transform",
         title: "row transform, 4096 samples",
         repetitions: 2000,
         samples: ROW,
-        coefficients: 0,
+        coefficients: None,
+        positions: None,
         numbers: ROW,
         work: ROW + 2 * rust::MARGIN,
         line: 0,
@@ -110,7 +130,8 @@ const CASES: [Case; 3] = [
         title: "picture transform, 512 x 512 pixels",
         repetitions: 60,
         samples: SIDE * SIDE,
-        coefficients: 0,
+        coefficients: None,
+        positions: None,
         numbers: SIDE * SIDE,
         work: SIDE + 2 * rust::MARGIN,
         line: SIDE,
@@ -142,7 +163,8 @@ const CASES: [Case; 3] = [
         title: "row zoom, 4096 samples at factor 16",
         repetitions: 500,
         samples: ROW,
-        coefficients: ROW,
+        coefficients: Some(make_row),
+        positions: None,
         numbers: rust::MOST_VALUES,
         work: 0,
         line: 0,
@@ -159,6 +181,54 @@ const CASES: [Case; 3] = [
         },
         c: |from, to| {
             classic::row_zoom(&from.real_coefficients, FACTOR, &mut to.reals);
+        },
+    },
+    Case {
+        name: "row_value",
+        title: "row value, 4096 calls at factor 16",
+        repetitions: 2000,
+        samples: ROW,
+        coefficients: Some(make_row),
+        positions: Some((ROW, FACTOR)),
+        numbers: VALUES,
+        work: 0,
+        line: 0,
+        unit: 256.0,
+        distance: 1.0,
+        library: |from, to| write_row_values(library::row_value, from, to),
+        before: earlier!("row_value", |from, to| {
+            write_row_values(before::row_value, from, to)
+        }),
+        rust: |from, to| write_row_values(rust::row_value, from, to),
+        c: |from, to| {
+            for (real, &x) in to.reals.iter_mut().zip(&from.x) {
+                *real = classic::row_value(&from.real_coefficients, x, from.factor);
+            }
+        },
+    },
+    Case {
+        name: "picture_value",
+        title: "picture value, 4096 calls at factor 16",
+        repetitions: 200,
+        samples: SIDE * SIDE,
+        coefficients: Some(make_picture),
+        positions: Some((SIDE, FACTOR)),
+        numbers: VALUES,
+        work: 0,
+        line: 0,
+        unit: 256.0,
+        distance: 1.125,
+        library: |from, to| write_picture_values(library::picture_value, from, to),
+        before: earlier!("picture_value", |from, to| {
+            write_picture_values(before::picture_value, from, to)
+        }),
+        rust: |from, to| write_picture_values(rust::picture_value, from, to),
+        c: |from, to| {
+            let positions = from.x.iter().zip(&from.y);
+            for (real, (&x, &y)) in to.reals.iter_mut().zip(positions) {
+                let (side, factor) = (from.side, from.factor);
+                *real = classic::picture_value(&from.real_coefficients, side, side, x, y, factor);
+            }
         },
     },
 ];
@@ -179,26 +249,120 @@ const ODD_ZOOM: Case = Case {
     ..CASES[2]
 };
 
+/// Row value at that factor, likewise.
+const ODD_VALUE: Case = Case {
+    name: "row_value_odd",
+    title: "row value, 4096 calls at factor 7",
+    positions: Some((ROW, ODD_FACTOR)),
+    ..CASES[3]
+};
+
+/// Writes the values that calls answer. The answer is their count, or the number of the first refusal negated: no refusal fits in 32 bits.
+fn write_values(answers: impl Iterator<Item = i64>, to: &mut Output) {
+    for (number, answer) in to.numbers.iter_mut().zip(answers) {
+        match i32::try_from(answer) {
+            Ok(value) => *number = value,
+            Err(_) => {
+                to.answer = rust::REFUSED - answer;
+                return;
+            }
+        }
+    }
+    to.answer = to.numbers.len() as i64;
+}
+
+fn write_row_values(
+    value: impl Fn(&[i32], (usize, usize), usize) -> i64,
+    from: &Input,
+    to: &mut Output,
+) {
+    let answers = from
+        .x
+        .iter()
+        .map(|&x| value(&from.coefficients, x, from.factor));
+    write_values(answers, to);
+}
+
+fn write_picture_values(
+    value: impl Fn(&[i32], usize, usize, (usize, usize), (usize, usize), usize) -> i64,
+    from: &Input,
+    to: &mut Output,
+) {
+    let (side, factor) = (from.side, from.factor);
+    let positions = from.x.iter().zip(&from.y);
+    let answers = positions.map(|(&x, &y)| value(&from.coefficients, side, side, x, y, factor));
+    write_values(answers, to);
+}
+
+/// Makes the coefficients of a row by the library's transform and by that of C, which a case of its own compares.
+fn make_row(input: &mut Input) -> i64 {
+    classic::row_transform(&input.samples, &mut input.real_coefficients);
+    let mut work = vec![0; input.samples.len() + 2 * rust::MARGIN];
+    library::row_transform(&input.samples, &mut input.coefficients, &mut work)
+}
+
+/// The same of a picture.
+fn make_picture(input: &mut Input) -> i64 {
+    let side = input.side;
+    let mut line = vec![0.0; side];
+    let mut work = vec![0; side + 2 * rust::MARGIN];
+    let (real, exact) = (&mut input.real_coefficients, &mut input.coefficients);
+    classic::picture_transform(&input.samples, side, side, real, &mut line);
+    library::picture_transform(&input.samples, side, side, exact, &mut work)
+}
+
+/// Fills the positions of one repetition along a row or a side of n: each is one of all that are on it. Which numbers it takes of those of the
+/// repetition `first` says.
+fn fill_positions(
+    repetition: u64,
+    first: u64,
+    n: usize,
+    factor: usize,
+    positions: &mut [(usize, usize)],
+) {
+    let all = ((n - 1) * factor + 1) as u64;
+    for (place, position) in (first..).zip(positions) {
+        let chosen = (data::number(repetition, place) % all) as usize;
+        *position = (chosen / factor, chosen % factor);
+    }
+}
+
 impl Input {
     fn new(case: &Case) -> Input {
+        let coefficients = case.coefficients.map_or(0, |_| case.samples);
+        let positions = case.positions.map_or(0, |_| case.numbers);
+        let (side, factor) = case.positions.unwrap_or_default();
         Input {
             samples: vec![0; case.samples],
-            coefficients: vec![0; case.coefficients],
-            real_coefficients: vec![0.0; case.coefficients],
+            coefficients: vec![0; coefficients],
+            real_coefficients: vec![0.0; coefficients],
+            x: vec![(0, 0); positions],
+            y: vec![(0, 0); positions],
+            side,
+            factor,
         }
     }
 
-    /// The data of one repetition. Coefficients are made by the library's transform and by that of C, which a case of its own compares.
-    fn fill(&mut self, repetition: u64) -> Result<(), String> {
+    /// The data of one repetition.
+    fn fill(&mut self, case: &Case, repetition: u64) -> Result<(), String> {
         data::fill(repetition, &mut self.samples);
-        if self.coefficients.is_empty() {
-            return Ok(());
+        if let Some((side, factor)) = case.positions {
+            fill_positions(repetition, FIRST_X, side, factor, &mut self.x);
+            fill_positions(repetition, FIRST_Y, side, factor, &mut self.y);
         }
-        classic::row_transform(&self.samples, &mut self.real_coefficients);
-        let mut work = vec![0; self.samples.len() + 2 * rust::MARGIN];
-        match library::row_transform(&self.samples, &mut self.coefficients, &mut work) {
-            answer if answer < 0 => Err(format!("the row transform refused, {answer}")),
+        match case.coefficients.map_or(0, |make| make(self)) {
+            answer if answer < 0 => Err(format!("the transform refused, {answer}")),
             _ => Ok(()),
+        }
+    }
+
+    /// Goes through the coefficients that are read next, the exact ones or those of C. Reading a few of a picture's takes less time after an
+    /// operation that has read the same ones: so all of them are as near as they can be, whatever went before.
+    fn visit(&self, exact: bool) {
+        if exact {
+            black_box(self.coefficients.iter().fold(0, |all, c| all ^ c));
+        } else {
+            black_box(self.real_coefficients.iter().sum::<f64>());
         }
     }
 }
@@ -237,6 +401,9 @@ impl Output {
 
 fn time(operation: Operation, from: &Input, to: &mut Output) -> Duration {
     to.prepare();
+    if !from.x.is_empty() {
+        from.visit(to.reals.is_empty());
+    }
     let start = Instant::now();
     operation(from, to);
     start.elapsed()
@@ -311,7 +478,7 @@ fn least_times<const N: usize>(
     let mut from = Input::new(case);
     let mut least = [Duration::MAX; N];
     for repetition in 0..case.repetitions {
-        from.fill(repetition)?;
+        from.fill(case, repetition)?;
         // Even repetitions are noise and odd ones are clicks; in each kind each of the operations goes first.
         let first = repetition as usize / 2 % N;
         for turn in 0..N {
@@ -340,7 +507,7 @@ fn measure_versions(case: &Case) -> Option<Result<[f64; 2], String>> {
 }
 
 fn print_versions() -> Result<(), String> {
-    let operations = CASES.iter().chain([&ODD_ZOOM]);
+    let operations = CASES.iter().chain([&ODD_ZOOM, &ODD_VALUE]);
     let operations = operations.map(|c| (c.title, measure_versions(c)));
     let readings = files::CASES.iter();
     let readings = readings.map(|c| (c.title, files::measure_versions(c)));

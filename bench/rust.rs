@@ -8,6 +8,9 @@ pub const LARGEST_FACTOR: usize = 16;
 pub const MOST_VALUES: usize = (LONGEST_ROW - 1) * LARGEST_FACTOR + 1;
 pub const RUN: usize = 8;
 
+/// What an operation that gives one value answers to a refusal is this, which is above every value, plus the number of the refusal.
+pub const REFUSED: i64 = 1 << 32;
+
 /// The pole times a number, over 2^31, to the nearest whole number, a tie going away from zero. The sign is that of the number, which is there
 /// before the product.
 fn times_pole(a: i64) -> i64 {
@@ -130,10 +133,16 @@ fn weights(j: i64, m: i64) -> [i64; 4] {
     ]
 }
 
-/// The value of the four coefficients around a position: the weighted sum over 96m³ to the nearest whole number, a tie going away from zero.
-/// The division goes towards zero, so that half of the divisor has the sign of the sum.
+fn weighted(around: [i64; 4], weights: &[i64; 4]) -> i64 {
+    around.iter().zip(weights).map(|(c, w)| c * w).sum()
+}
+
+/// The value of four numbers around a position, coefficients or sums of them: the weighted sum over the divisor, 96m³ for a row, to the nearest
+/// whole number, a tie going away from zero. The division goes towards zero, so that half of the divisor has the sign of the sum. In picture
+/// value it would be a call of its own, which takes longer.
+#[inline(always)]
 fn value(around: [i64; 4], weights: &[i64; 4], divisor: i64) -> i32 {
-    let sum: i64 = around.iter().zip(weights).map(|(c, w)| c * w).sum();
+    let sum = weighted(around, weights);
     let half = divisor / 2;
     ((sum + if sum < 0 { -half } else { half }) / divisor) as i32
 }
@@ -178,6 +187,76 @@ pub fn row_zoom(coefficients: &[i32], factor: usize, values: &mut [i32]) -> i64 
         }
     }
     count as i64
+}
+
+/// Whether a position, k and the numerator j, is off a line of n at a factor.
+fn off_data((k, j): (usize, usize), factor: usize, n: usize) -> bool {
+    j >= factor || k >= n || (k == n - 1 && j > 0)
+}
+
+/// The value, or what stands for a refusal. It is not inlined, since a value of the library is one call too: in a loop the compiler would test
+/// the row and the factor only once.
+#[inline(never)]
+pub fn row_value(coefficients: &[i32], position: (usize, usize), factor: usize) -> i64 {
+    let n = coefficients.len();
+    if n == 0 {
+        return REFUSED + 1;
+    }
+    if n > LONGEST_ROW {
+        return REFUSED + 2;
+    }
+    if factor == 0 || factor > LARGEST_FACTOR {
+        return REFUSED + 7;
+    }
+    if off_data(position, factor, n) {
+        return REFUSED + 8;
+    }
+    let (k, j) = position;
+    let m = factor as i64;
+    let weights = weights(j as i64, m);
+    i64::from(value(around(coefficients, k), &weights, 96 * m.pow(3)))
+}
+
+/// The four places around a place of a line of n; only at the ends do they need the mirrored index.
+fn places_around(k: usize, n: usize) -> [usize; 4] {
+    if k >= 1 && k + 2 < n {
+        return [k - 1, k, k + 1, k + 2];
+    }
+    [-1, 0, 1, 2].map(|i| mirrored(k as i64 + i, n))
+}
+
+/// The value, or what stands for a refusal: the weights along y on the sums of four rows with the weights along x. It is not inlined, as above.
+#[inline(never)]
+pub fn picture_value(
+    coefficients: &[i32],
+    width: usize,
+    height: usize,
+    x: (usize, usize),
+    y: (usize, usize),
+    factor: usize,
+) -> i64 {
+    if width == 0 || width > LONGEST_SIDE || height == 0 || height > LONGEST_SIDE {
+        return REFUSED + 3;
+    }
+    if coefficients.len() != width * height {
+        return REFUSED + 4;
+    }
+    if factor == 0 || factor > LARGEST_FACTOR {
+        return REFUSED + 7;
+    }
+    if off_data(x, factor, width) || off_data(y, factor, height) {
+        return REFUSED + 8;
+    }
+    let m = factor as i64;
+    let along_x = weights(x.1 as i64, m);
+    let along_y = weights(y.1 as i64, m);
+    let [a, b, c, d] = places_around(x.0, width);
+    let mut sums = [0; 4];
+    for (sum, place) in sums.iter_mut().zip(places_around(y.0, height)) {
+        let row = &coefficients[width * place..][..width];
+        *sum = weighted([row[a], row[b], row[c], row[d]].map(i64::from), &along_x);
+    }
+    i64::from(value(sums, &along_y, 576 * m.pow(6)))
 }
 
 /// The number of two bytes from a place on, the low one first.

@@ -13,6 +13,7 @@ from scipy import ndimage
 
 WAVE = numpy.array([0, 5, 8, 5, 0, -5, -8, -5], numpy.int64)
 SECTION = 512
+FACTOR = 16
 
 
 def numbers(repetition, places):
@@ -23,9 +24,9 @@ def numbers(repetition, places):
     return bits ^ (bits >> numpy.uint64(31))
 
 
-def samples(repetition, count):
+def samples(repetition, shape):
     """The samples (or pixels) of one repetition."""
-    places = numpy.arange(count)
+    places = numpy.arange(numpy.prod(shape)).reshape(shape)
     random = numbers(repetition, places)
     if repetition % 2 == 0:
         return (random >> numpy.uint64(48)).astype(numpy.int16)
@@ -39,6 +40,18 @@ def samples(repetition, count):
     return (faint + click).astype(numpy.int16)
 
 
+def positions(repetition, first, n, factor, count):
+    """The positions of one repetition along a row or a side of n, as fill_positions of main.rs makes them."""
+    chosen = numbers(repetition, first + numpy.arange(count)) % numpy.uint64((n - 1) * factor + 1)
+    return chosen.astype(numpy.float64) / factor
+
+
+def filtered(data):
+    """The coefficients of a row or a picture in float64."""
+    transform = ndimage.spline_filter1d if data.ndim == 1 else ndimage.spline_filter
+    return transform(data, order=3, output=numpy.float64, mode="mirror")
+
+
 class Transform:
     """spline_filter1d of a row or spline_filter of a picture, from 16-bit samples."""
 
@@ -47,8 +60,8 @@ class Transform:
         self.output = numpy.zeros(shape, numpy.float64)
         self.filter = ndimage.spline_filter1d if len(shape) == 1 else ndimage.spline_filter
 
-    def load(self, data):
-        self.data = data.reshape(self.shape)
+    def load(self, repetition):
+        self.data = samples(repetition, self.shape)
 
     def call(self):
         self.filter(self.data, order=3, output=self.output, mode="mirror")
@@ -57,18 +70,33 @@ class Transform:
 class Zoom:
     """map_coordinates of coefficients in float64, which are made outside the time, at every position of the zoom."""
 
-    FACTOR = 16
-
     def __init__(self, shape):
         (n,) = self.shape = shape
-        self.positions = numpy.arange((n - 1) * self.FACTOR + 1).reshape(1, -1) / self.FACTOR
+        self.positions = numpy.arange((n - 1) * FACTOR + 1).reshape(1, -1) / FACTOR
         self.output = numpy.zeros(self.positions.shape[1], numpy.float64)
 
-    def load(self, data):
-        self.data = ndimage.spline_filter1d(data, order=3, output=numpy.float64, mode="mirror")
+    def load(self, repetition):
+        self.data = filtered(samples(repetition, self.shape))
 
     def call(self):
         ndimage.map_coordinates(self.data, self.positions, output=self.output, order=3, prefilter=False, mode="mirror")
+
+
+class Values(Zoom):
+    """The same at as many positions as there are calls in main.rs, all in one call; on the smallest data there are only a few."""
+
+    # Where the numbers of the positions begin, by the dimension. The last dimension is x.
+    FIRST = {1: (1 << 30,), 2: (3 << 30, 1 << 30)}
+
+    def __init__(self, shape):
+        self.shape = shape
+        self.count = min(4096, int(numpy.prod(shape)))
+        self.output = numpy.zeros(self.count, numpy.float64)
+
+    def load(self, repetition):
+        super().load(repetition)
+        sides = zip(self.FIRST[len(self.shape)], self.shape)
+        self.positions = numpy.array([positions(repetition, first, n, FACTOR, self.count) for first, n in sides])
 
 
 # Each case: the call, the shape of its data, and a shape so small that only the call itself takes time.
@@ -76,15 +104,16 @@ CASES = {
     "row_transform": (Transform, (4096,), (2,)),
     "picture_transform": (Transform, (512, 512), (2, 2)),
     "row_zoom": (Zoom, (4096,), (2,)),
+    "row_value": (Values, (4096,), (2,)),
+    "picture_value": (Values, (512, 512), (2, 2)),
 }
 
 
 def least(operation, shape, repetitions):
-    count = int(numpy.prod(shape))
     case = operation(shape)
     times = []
     for repetition in range(repetitions):
-        case.load(samples(repetition, count))
+        case.load(repetition)
         case.output.fill(-1.0)
         start = time.perf_counter_ns()
         case.call()

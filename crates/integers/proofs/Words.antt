@@ -1,11 +1,10 @@
--- Signed numbers of one width on the way of a computation. The machine reads the bits of each operand; where every result fits, these mean the sums
+-- Signed numbers on the way of a computation, each of a width. The machine reads the bits of each operand; where every result fits, these mean the sums
 -- and products of ℤ. A `Word` keeps both, and a bound that is computed along, so that one test of literals shows that a result fits. Assumes nothing.
 use mathlib.Core.Path.{_≡_, refl, ap₂, _∙_}
 use Prim.Native.Nat.{ℕ, _+_, _*_, _^_, _≤_, _<_}
 use native.Mathlib.Nat.{le-refl}
-use native.Mathlib.Omega.{arith}
 use lib.IntN.{ℤ, pos, _+ℤ_, _-ℤ_, _*ℤ_}
-use mir.Facts.{toZ-ofZ, toZ-pos}
+use mir.Facts.{toZ-ofZ}
 use mir.Syntax.{Width}
 use mir.Val.{SFits, hbits, toZ, ofZ}
 use Rattle.integers.specs.Bound.{Within}
@@ -40,15 +39,11 @@ given x B = stored x x B refl
 
 -- a natural number that is cast
 abbrev pub counted : {w : Width} (n B : ℕ) → n ≤ B → B < 2 ^ hbits w → Word w
-counted {w} n B h l = record {
-  result = pos n;
-  fits = within-fits w l (record { within = h });
-  operand = toZ w n;
-  value = pos n;
-  means = toZ-pos w (omega arith);
-  bound = B;
-  small = record { within = h };
-}
+counted n B h = given (pos n) B (record { within = h })
+
+-- a number of another width that is cast
+abbrev pub cast : {v w : Width} (a : Word v) → a .bound < 2 ^ hbits w → Word w
+cast a = stored (a .operand) (a .value) (a .bound) (a .means) (a .small)
 
 abbrev pub literal : {w : Width} (n : ℕ) → n < 2 ^ hbits w → Word w
 literal {w} n l = record {

@@ -42,10 +42,11 @@ pub fn support(c: &[i32], from: usize, n: usize, k: usize) -> Four
     }
 }
 
-// The sum of the products, place by place.
+// The sum of the products, place by place. A weight of 32 bits is cast to 64 first.
 pub fn dot(w: Weights, c: Four) -> i64
     requires { ⌜ Summable (weighed w) (listed c) ⌝ }
     ensures { λ r. ⌜ r ≡ dot (weighed w) (listed c) ⌝ }
 {
-    w.before * c.before + (w.here * c.here + (w.after * c.after + w.beyond * c.beyond))
+    w.before as i64 * c.before
+        + (w.here as i64 * c.here + (w.after as i64 * c.after + w.beyond as i64 * c.beyond))
 }

@@ -1,43 +1,43 @@
--- `sums::weights::inner` meets its contract: the cubes are at most 16³, so that every product and sum fits 64 bits. Assumes nothing.
+-- `sums::weights::inner` meets its contract: the cubes are at most 16³, so that every product and sum fits 32 bits. Assumes nothing.
 use mathlib.Core.Path.{_≡_, ap₂, _∙_}
 use Prim.Native.Nat.{_^_}
 use borrow.Author.Needs.{needs}
 use lib.Dec.{lit<}
 use lib.IntN.{pos, _+ℤ_, _-ℤ_, _*ℤ_}
 use mir.Facts.{toZ-ofZ}
-use mir.Syntax.{w64}
+use mir.Syntax.{w32}
 use Rattle.integers.proofs.Words.{Word, given, literal, plus, minus, times}
 use Rattle.bspline.specs.Values.{cube}
 use Rattle.sums.proofs.weights.inner.Statement.{statement}
 use Rattle.sums.proofs.weights.inner.Tie as tie
 
 module _ (c : tie.After-cube) where
-  abbrev j : Word w64
+  abbrev j : Word w32
   j = given (c .before .args .j) 16 (c .before .pre .0) (lit< tt)
 
-  abbrev m : Word w64
+  abbrev m : Word w32
   m = given (c .before .args .m) 16 (c .before .pre .1) (lit< tt)
 
-  abbrev first : Word w64
+  abbrev first : Word w32
   first = times (literal 3 (lit< tt)) (given (c .cube .result) (16 ^ 3) (c .cube .ensures .1) (lit< tt)) (lit< tt)
 
-  abbrev square : Word w64
+  abbrev square : Word w32
   square = times j j (lit< tt)
 
-  abbrev six-squares : Word w64
+  abbrev six-squares : Word w32
   six-squares = times (literal 6 (lit< tt)) square (lit< tt)
 
-  abbrev second : Word w64
+  abbrev second : Word w32
   second = times six-squares m (lit< tt)
 
-  abbrev two : Word w64
+  abbrev two : Word w32
   two = minus first second (lit< tt)
 
 module _ (c : tie.After-cube2) where
-  abbrev third : Word w64
+  abbrev third : Word w32
   third = times (literal 4 (lit< tt)) (given (c .cube2 .result) (16 ^ 3) (c .cube2 .ensures .1) (lit< tt)) (lit< tt)
 
-  abbrev three : Word w64
+  abbrev three : Word w32
   three = plus (two (c .before)) third (lit< tt)
 
 cube-requires : tie.Need-cube-requires

@@ -7,7 +7,7 @@ use borrow.Author.Needs.{needs, sfits-of}
 use lib.Dec.{lit<}
 use lib.IntN.{ℤ, pos, _+ℤ_, _-ℤ_, _*ℤ_}
 use mir.Facts.{toZ-ofZ}
-use mir.Syntax.{w64}
+use mir.Syntax.{w32}
 use Rattle.integers.proofs.Linear.{reify, show}
 use Rattle.integers.proofs.Ring.{polys, ring}
 use Rattle.integers.proofs.Words.{Word, stored, counted, operand-small}
@@ -24,13 +24,13 @@ after-is : (m j : ℤ) → inner (m -ℤ j) m ≡ pos 3 *ℤ (j *ℤ j) *ℤ m +
 after-is m j = ring (m ∷ j ∷ []) (simp polys tt) tt
 
 module _ (s : tie.Start) where
-  abbrev factor : Word w64
+  abbrev factor : Word w32
   factor = counted (s .args .m) 16 (s .pre .0) (lit< tt)
 
-  abbrev numerator : Word w64
+  abbrev numerator : Word w32
   numerator = counted (s .args .j) 16 (omega arith) (lit< tt)
 
-  abbrev rest : Word w64
+  abbrev rest : Word w32
   rest =
       stored (factor .operand -ℤ numerator .operand) (factor .value -ℤ numerator .value) 16 (ap₂ _-ℤ_ (factor .means) (numerator .means))
       (show (simp reify tt) (omega arith)) (lit< tt)

@@ -1,5 +1,5 @@
--- `zoom::weighted::cubic_of` meets its contract: every product and sum on the way fits 64 bits, and the cubic of the four is the weighted sum.
--- Assumes nothing.
+-- `zoom::weighted::cubic_of` meets its contract: the powers of the factor fit 32 bits and every product and sum with the four numbers 64, and the
+-- cubic of the four is the weighted sum. Assumes nothing.
 use borrow.Author.Needs.{needs}
 use mathlib.Core.Path.{_≡_, ap, ap₂, _∙_}
 use Prim.Native.Nat.{ℕ, _^_}
@@ -9,16 +9,38 @@ use Rattle.bspline.specs.Lists.{at}
 use Rattle.bspline.specs.Values.{weights, dot}
 use Rattle.sums.specs.Sums.{listed}
 use Rattle.cubic.specs.Cubics.{cubicSum}
-use mir.Syntax.{w64}
-use Rattle.integers.proofs.Words.{Word, given, counted, literal, plus, minus, times, operand-small}
+use mir.Syntax.{w32, w64}
+use Rattle.integers.proofs.Words.{Word, given, counted, cast, literal, plus, minus, times, operand-small}
 use Rattle.zoom.proofs.CubicSum.{cubic-sum}
 use Rattle.zoom.proofs.weighted.cubic_of.Statement.{statement}
 use Rattle.zoom.proofs.weighted.cubic_of.Tie as tie
 
 -- the products and sums
 module _ (s : tie.Start) where
-  abbrev factor : Word w64
+  -- the powers of the factor, and each as a number of 64 bits
+  abbrev factor : Word w32
   factor = counted (s .args .m) 16 (s .pre .1) (lit< tt)
+
+  abbrev square : Word w32
+  square = times factor factor (lit< tt)
+
+  abbrev cubed : Word w32
+  cubed = times square factor (lit< tt)
+
+  abbrev wide-cubed : Word w64
+  wide-cubed = cast cubed (lit< tt)
+
+  abbrev three-factor : Word w32
+  three-factor = times (literal 3 (lit< tt)) factor (lit< tt)
+
+  abbrev three-square : Word w32
+  three-square = times three-factor factor (lit< tt)
+
+  abbrev wide-three-square : Word w64
+  wide-three-square = cast three-square (lit< tt)
+
+  abbrev wide-three-factor : Word w64
+  wide-three-factor = cast three-factor (lit< tt)
 
   -- the number at a place of the four
   abbrev number : ℕ → Word w64
@@ -36,12 +58,6 @@ module _ (s : tie.Start) where
   abbrev beyond : Word w64
   beyond = number 3
 
-  abbrev square : Word w64
-  square = times factor factor (lit< tt)
-
-  abbrev cubed : Word w64
-  cubed = times square factor (lit< tt)
-
   abbrev four-here : Word w64
   four-here = times (literal 4 (lit< tt)) here (lit< tt)
 
@@ -52,19 +68,13 @@ module _ (s : tie.Start) where
   three-numbers = plus two-numbers after (lit< tt)
 
   abbrev zero : Word w64
-  zero = times cubed three-numbers (lit< tt)
-
-  abbrev three-factor : Word w64
-  three-factor = times (literal 3 (lit< tt)) factor (lit< tt)
-
-  abbrev three-square : Word w64
-  three-square = times three-factor factor (lit< tt)
+  zero = times wide-cubed three-numbers (lit< tt)
 
   abbrev rise : Word w64
   rise = minus after before (lit< tt)
 
   abbrev one : Word w64
-  one = times three-square rise (lit< tt)
+  one = times wide-three-square rise (lit< tt)
 
   abbrev two-here : Word w64
   two-here = times (literal 2 (lit< tt)) here (lit< tt)
@@ -76,7 +86,7 @@ module _ (s : tie.Start) where
   bend = plus less-here after (lit< tt)
 
   abbrev two : Word w64
-  two = times three-factor bend (lit< tt)
+  two = times wide-three-factor bend (lit< tt)
 
   abbrev span : Word w64
   span = minus beyond before (lit< tt)
@@ -118,56 +128,65 @@ mul-t4 c = square c .fits
 mul-t5 : tie.Need-mul-t5
 mul-t5 c = cubed c .fits
 
-mul-t6 : tie.Need-mul-t6
-mul-t6 c = four-here (c .before .before) .fits
+cast-t6 : tie.Need-cast-t6
+cast-t6 c = wide-cubed c .fits
 
-add-t7 : tie.Need-add-t7
-add-t7 c = two-numbers (c .before .before .before .before) .fits
+mul-t7 : tie.Need-mul-t7
+mul-t7 c = four-here (c .before .before) .fits
 
 add-t8 : tie.Need-add-t8
-add-t8 c = three-numbers (start-3 c) .fits
+add-t8 c = two-numbers (c .before .before .before .before) .fits
 
-mul-t9 : tie.Need-mul-t9
-mul-t9 c = zero (start-3 c) .fits
+add-t9 : tie.Need-add-t9
+add-t9 c = three-numbers (start-3 c) .fits
 
 mul-t10 : tie.Need-mul-t10
-mul-t10 c = three-factor (start-3 c) .fits
+mul-t10 c = zero (start-3 c) .fits
 
 mul-t11 : tie.Need-mul-t11
-mul-t11 c = three-square (start-3 c) .fits
+mul-t11 c = three-factor (start-3 c) .fits
 
-sub-t12 : tie.Need-sub-t12
-sub-t12 c = rise (start-3 (c .before .before)) .fits
+mul-t12 : tie.Need-mul-t12
+mul-t12 c = three-square (start-3 c) .fits
 
-mul-t13 : tie.Need-mul-t13
-mul-t13 c = one (start-3 (c .before .before)) .fits
+cast-t13 : tie.Need-cast-t13
+cast-t13 c = wide-three-square (start-3 c) .fits
 
-mul-t14 : tie.Need-mul-t14
-mul-t14 c = three-factor (start-3 (c .before .before)) .fits
+sub-t14 : tie.Need-sub-t14
+sub-t14 c = rise (start-3 (c .before .before)) .fits
 
 mul-t15 : tie.Need-mul-t15
-mul-t15 c = two-here (start-3 (c .before .before .before .before)) .fits
+mul-t15 c = one (start-3 (c .before .before)) .fits
 
-sub-t16 : tie.Need-sub-t16
-sub-t16 c = less-here (start-6 c) .fits
+mul-t16 : tie.Need-mul-t16
+mul-t16 c = three-factor (start-3 (c .before .before)) .fits
 
-add-t17 : tie.Need-add-t17
-add-t17 c = bend (start-6 (c .before .before)) .fits
+cast-t17 : tie.Need-cast-t17
+cast-t17 c = wide-three-factor (start-3 (c .before .before)) .fits
 
 mul-t18 : tie.Need-mul-t18
-mul-t18 c = two (start-6 (c .before .before)) .fits
+mul-t18 c = two-here (start-3 (c .before .before .before .before)) .fits
 
 sub-t19 : tie.Need-sub-t19
-sub-t19 c = span (start-6 (c .before .before .before .before)) .fits
+sub-t19 c = less-here (start-6 c) .fits
 
-sub-t20 : tie.Need-sub-t20
-sub-t20 c = fall (start-9 c) .fits
+add-t20 : tie.Need-add-t20
+add-t20 c = bend (start-6 (c .before .before)) .fits
 
 mul-t21 : tie.Need-mul-t21
-mul-t21 c = three-fall (start-9 c) .fits
+mul-t21 c = two (start-6 (c .before .before)) .fits
 
-add-t22 : tie.Need-add-t22
-add-t22 c = three (start-9 c) .fits
+sub-t22 : tie.Need-sub-t22
+sub-t22 c = span (start-6 (c .before .before .before .before)) .fits
+
+sub-t23 : tie.Need-sub-t23
+sub-t23 c = fall (start-9 c) .fits
+
+mul-t24 : tie.Need-mul-t24
+mul-t24 c = three-fall (start-9 c) .fits
+
+add-t25 : tie.Need-add-t25
+add-t25 c = three (start-9 c) .fits
 
 returns : tie.Need-returns
 returns c =
@@ -183,21 +202,24 @@ cubic-of-spec =
     cast-m
     mul-t4
     mul-t5
-    mul-t6
-    add-t7
+    cast-t6
+    mul-t7
     add-t8
-    mul-t9
+    add-t9
     mul-t10
     mul-t11
-    sub-t12
-    mul-t13
-    mul-t14
+    mul-t12
+    cast-t13
+    sub-t14
     mul-t15
-    sub-t16
-    add-t17
+    mul-t16
+    cast-t17
     mul-t18
     sub-t19
-    sub-t20
+    add-t20
     mul-t21
-    add-t22
+    sub-t22
+    sub-t23
+    mul-t24
+    add-t25
     returns)
