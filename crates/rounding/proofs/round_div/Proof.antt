@@ -8,7 +8,7 @@ use mir.Syntax.{w64}
 use mir.Val.{SFits, toZ, ofZ}
 use Rattle.integers.proofs.Absolute.{fits-abs}
 use Rattle.rounding.specs.Half.{half}
-use Rattle.rounding.proofs.Nearest.{before-floor, before-floor-rounds, before-floor-size}
+use Rattle.rounding.proofs.Nearest.{half-read, before-floor, before-floor-rounds, before-floor-size}
 use Rattle.rounding.proofs.round_div.Statement.{statement}
 use Rattle.rounding.proofs.round_div.Tie as tie
 
@@ -20,10 +20,7 @@ module _ (c : tie.After-half) where
   start = c .before
 
   half-is : toZ w64 (ofZ w64 (c .half .result)) ≡ pos (half (start .args .a) (natAbs (start .args .d)))
-  half-is =
-      let f = start .fits .a in
-      let g = start .fits .d in
-      toZ-ofZ (sfits-of {w = w64} (c .half .ok)) ∙ (simp toZ-ofZ at (c .half .ensures))
+  half-is = half-read (start .fits .a) (start .fits .d) (sfits-of (c .half .ok)) (c .half .ensures)
 
   fits : SFits w64 (before-floor (start .args .a) (start .args .d))
   fits =

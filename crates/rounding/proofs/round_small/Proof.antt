@@ -18,7 +18,7 @@ use Rattle.integers.proofs.Machine.{floor-moved}
 use Rattle.integers.proofs.Parts.{of-lt}
 use Rattle.rounding.specs.Half.{half}
 use Rattle.rounding.proofs.Narrow.{quotient-fits}
-use Rattle.rounding.proofs.Nearest.{before-floor, before-floor-rounds, before-floor-size}
+use Rattle.rounding.proofs.Nearest.{half-read, before-floor, before-floor-rounds, before-floor-size}
 use Rattle.rounding.proofs.round_small.Statement.{statement}
 use Rattle.rounding.proofs.round_small.Tie as tie
 
@@ -71,10 +71,7 @@ module _ (c : tie.After-half) where
   small = record { above = start .pre .0; divisor = start .pre .1; size = start .pre .2 }
 
   half-is : toZ w64 (ofZ w64 (c .half .result)) ≡ pos (half (start .args .a) (natAbs (start .args .d)))
-  half-is =
-      let f = start .fits .a in
-      let g = start .fits .d in
-      toZ-ofZ (sfits-of {w = w64} (c .half .ok)) ∙ (simp toZ-ofZ at (c .half .ensures))
+  half-is = half-read (start .fits .a) (start .fits .d) (sfits-of (c .half .ok)) (c .half .ensures)
 
   below : natAbs (moved (start .args .a) (start .args .d)) / natAbs (start .args .d) < 2 ^ 63
   below = omega (arith, quotient small)
