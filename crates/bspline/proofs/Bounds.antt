@@ -1,4 +1,4 @@
--- The laws of a bound on every number of a list, `AllWithin`: the empty list, a list with one number more or less, and a table.
+-- The laws of a bound on every number of a list, `AllWithin`: the empty list, a list with one number more or less, a table, and the sum of the sizes.
 -- The bound is one statement for each place, and the places of a list with one number more are 0 and those after it.
 -- Assumes nothing.
 use mathlib.Core.List.{List, [], _∷_}
@@ -8,7 +8,7 @@ use native.Mathlib.Omega.{arith}
 use lib.IntN.{ℤ, pos, natAbs}
 use lib.ListN.{length, List·getD-eq-default}
 use Rattle.integers.specs.Bound.{Within}
-use Rattle.bspline.specs.Bounds.{AllWithin}
+use Rattle.bspline.specs.Bounds.{AllWithin, sizes}
 use Rattle.bspline.specs.Lists.{at, tabulate}
 
 -- the empty list is within every bound
@@ -50,3 +50,8 @@ places-within B l h = record { within = λ k. each k (decLt k (length l)) }
     each k (no g) =
         let past : length l ≤ k = omega arith in
         rw (List·getD-eq-default l (pos 0) past) (omega arith)
+
+-- no number is further from 0 than all sizes together
+pub sizes-within : (l : List ℤ) → AllWithin (sizes l) l
+sizes-within [] = nil-within 0
+sizes-within (x ∷ l) = cons-within (omega arith) (all-weaken (omega arith) (sizes-within l))

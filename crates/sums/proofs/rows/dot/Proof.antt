@@ -1,47 +1,44 @@
 -- `sums::rows::dot` meets its contract: a product is at most the bound of the numbers times the weight, so that every sum of them is at most
 -- that bound times the weights' total, which fits 64 bits. Assumes nothing.
-use Prim.Native.Nat.{_+_, _*_, _^_, _≤_}
-use native.Mathlib.Nat.{le-refl}
+use Prim.Native.Nat.{ℕ, _+_, _*_, _^_, _≤_}
+use native.Mathlib.Nat.{le-refl, le-trans}
 use native.Mathlib.Omega.{arith}
 use lib.Dec.{lit<}
-use lib.IntN.{ℤ, natAbs, +ℤ-idr}
+use lib.IntN.{natAbs, +ℤ-idr}
 use mir.Syntax.{w32, w64}
 use Rattle.integers.proofs.Words.{Word, given, cast, plus, times}
+use Rattle.bspline.specs.Lists.{at}
+use Rattle.bspline.proofs.Bounds.{sizes-within}
+use Rattle.sums.specs.Sums.{listed}
+use Rattle.sums.specs.Weights.{weighed}
 use Rattle.sums.proofs.rows.dot.Statement.{statement}
 use Rattle.sums.proofs.rows.dot.Tie as tie
 
--- a weight of 32 bits as a number of 64, and its product with a number
-abbrev weight : (w : ℤ) → natAbs w ≤ 24576 → Word w64
-weight w h = cast {v = w32} (given w (natAbs w) (record { within = le-refl (natAbs w) }) (omega (arith, h))) (omega (arith, h))
-
-abbrev product : (w c : ℤ) → natAbs w ≤ 24576 → natAbs c ≤ 24576 * 2 ^ 31 → Word w64
-product w c h k = times (weight w h) (given c (24576 * 2 ^ 31) (record { within = k }) (lit< tt)) (omega (arith, h))
-
--- the four products and the sums of the last two, three and four
+-- the products, place by place, and the sums of the last two, three and four
 module _ (s : tie.Start) where
   light : natAbs (s .args .w .before) + (natAbs (s .args .w .here) + (natAbs (s .args .w .after) + (natAbs (s .args .w .beyond) + 0))) ≤ 24576
   light = s .pre .light
 
-  abbrev before : Word w64
-  before = product (s .args .w .before) (s .args .c .before) (omega (arith, light)) (s .pre .small .within 0)
+  -- a weight of 32 bits as a number of 64
+  abbrev weight : ℕ → Word w64
+  weight k =
+      let w = at (weighed (s .args .w)) k in
+      let small : natAbs w ≤ 24576 = le-trans (sizes-within (weighed (s .args .w)) .within k) light in
+      cast {v = w32} (given w (natAbs w) (record { within = le-refl (natAbs w) }) (omega (arith, small))) (omega (arith, small))
 
-  abbrev here : Word w64
-  here = product (s .args .w .here) (s .args .c .here) (omega (arith, light)) (s .pre .small .within 1)
-
-  abbrev after : Word w64
-  after = product (s .args .w .after) (s .args .c .after) (omega (arith, light)) (s .pre .small .within 2)
-
-  abbrev beyond : Word w64
-  beyond = product (s .args .w .beyond) (s .args .c .beyond) (omega (arith, light)) (s .pre .small .within 3)
+  abbrev product : ℕ → Word w64
+  product k =
+      times (weight k) (given (at (listed (s .args .c)) k) (24576 * 2 ^ 31) (record { within = s .pre .small .within k }) (lit< tt))
+      (omega (arith, sizes-within (weighed (s .args .w)) .within k, light))
 
   abbrev two : Word w64
-  two = plus after beyond (omega (arith, light))
+  two = plus (product 2) (product 3) (omega (arith, light))
 
   abbrev three : Word w64
-  three = plus here two (omega (arith, light))
+  three = plus (product 1) two (omega (arith, light))
 
   abbrev four : Word w64
-  four = plus before three (omega (arith, light))
+  four = plus (product 0) three (omega (arith, light))
 
 -- the start, from the second, the fourth, the sixth and the eighth number that was read
 abbrev start-2 : tie.After-struct-told2 → tie.Start
@@ -57,28 +54,28 @@ abbrev start-8 : tie.After-struct-told8 → tie.Start
 start-8 c = start-6 (c .before .before .before .before)
 
 cast-result : tie.Need-cast-result
-cast-result c = let s = c .before .before in weight (s .args .w .before) (omega (arith, light s)) .fits
+cast-result c = weight (c .before .before) 0 .fits
 
 mul-result : tie.Need-mul-result
-mul-result c = before (start-2 c) .fits
+mul-result c = product (start-2 c) 0 .fits
 
 cast-result-2 : tie.Need-cast-result-2
-cast-result-2 c = let s = start-2 (c .before .before) in weight (s .args .w .here) (omega (arith, light s)) .fits
+cast-result-2 c = weight (start-2 (c .before .before)) 1 .fits
 
 mul-result-2 : tie.Need-mul-result-2
-mul-result-2 c = here (start-4 c) .fits
+mul-result-2 c = product (start-4 c) 1 .fits
 
 cast-result-3 : tie.Need-cast-result-3
-cast-result-3 c = let s = start-4 (c .before .before) in weight (s .args .w .after) (omega (arith, light s)) .fits
+cast-result-3 c = weight (start-4 (c .before .before)) 2 .fits
 
 mul-result-3 : tie.Need-mul-result-3
-mul-result-3 c = after (start-6 c) .fits
+mul-result-3 c = product (start-6 c) 2 .fits
 
 cast-result-4 : tie.Need-cast-result-4
-cast-result-4 c = let s = start-6 (c .before .before) in weight (s .args .w .beyond) (omega (arith, light s)) .fits
+cast-result-4 c = weight (start-6 (c .before .before)) 3 .fits
 
 mul-result-4 : tie.Need-mul-result-4
-mul-result-4 c = beyond (start-8 c) .fits
+mul-result-4 c = product (start-8 c) 3 .fits
 
 add-result : tie.Need-add-result
 add-result c = two (start-8 c) .fits
