@@ -69,10 +69,11 @@ void classic_row_transform(const int16_t *samples, size_t n, double *coefficient
   filter(coefficients, n);
 }
 
-/* Rows in place; each column is copied to a line of its own and back. */
-void classic_picture_transform(const int16_t *pixels, size_t width, size_t height, double *coefficients, double *line) {
+/* A row of pixels begins a pitch after the one before; coefficients are closely packed. Rows in place; each column is copied to a line of its own
+ * and back. */
+void classic_picture_transform(const int16_t *pixels, size_t width, size_t height, size_t pitch, double *coefficients, double *line) {
   for (size_t y = 0; y < height; y++)
-    classic_row_transform(pixels + y * width, width, coefficients + y * width);
+    classic_row_transform(pixels + y * pitch, width, coefficients + y * width);
   if (height == 1)
     return;
   for (size_t x = 0; x < width; x++) {
@@ -158,7 +159,8 @@ double classic_row_value(const double *coefficients, size_t n, size_t k, size_t 
 }
 
 /* The positions are kx + jx / factor in a row and ky + jy / factor in a column. */
-double classic_picture_value(const double *coefficients, size_t width, size_t height, size_t kx, size_t jx, size_t ky, size_t jy, size_t factor) {
+double classic_picture_value(const double *coefficients, size_t width, size_t height, size_t pitch, size_t kx, size_t jx, size_t ky, size_t jy,
+                             size_t factor) {
   size_t columns[4], rows[4];
   double along_x[4], along_y[4];
   places_around(kx, width, columns);
@@ -166,9 +168,9 @@ double classic_picture_value(const double *coefficients, size_t width, size_t he
   weigh(jx, factor, along_x);
   weigh(jy, factor, along_y);
   /* Written out, since gcc makes slower code of a loop over the four rows. */
-  double a = weighted(coefficients + rows[0] * width, columns, along_x);
-  double b = weighted(coefficients + rows[1] * width, columns, along_x);
-  double c = weighted(coefficients + rows[2] * width, columns, along_x);
-  double d = weighted(coefficients + rows[3] * width, columns, along_x);
+  double a = weighted(coefficients + rows[0] * pitch, columns, along_x);
+  double b = weighted(coefficients + rows[1] * pitch, columns, along_x);
+  double c = weighted(coefficients + rows[2] * pitch, columns, along_x);
+  double d = weighted(coefficients + rows[3] * pitch, columns, along_x);
   return along_y[0] * a + along_y[1] * b + along_y[2] * c + along_y[3] * d;
 }

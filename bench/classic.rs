@@ -7,6 +7,7 @@ extern "C" {
         pixels: *const i16,
         width: usize,
         height: usize,
+        pitch: usize,
         coefficients: *mut f64,
         line: *mut f64,
     );
@@ -25,6 +26,7 @@ extern "C" {
         coefficients: *const f64,
         width: usize,
         height: usize,
+        pitch: usize,
         kx: usize,
         jx: usize,
         ky: usize,
@@ -45,17 +47,20 @@ pub fn picture_transform(
     pixels: &[i16],
     width: usize,
     height: usize,
+    pitch: usize,
     coefficients: &mut [f64],
     line: &mut [f64],
 ) {
-    assert!(!pixels.is_empty() && pixels.len() == width * height);
-    assert!(coefficients.len() == pixels.len() && line.len() == height);
-    // SAFETY: as above, with the lengths width * height and, of the line, height.
+    assert!(width > 0 && height > 0 && pitch >= width);
+    assert!(pixels.len() >= (height - 1) * pitch + width);
+    assert!(coefficients.len() == width * height && line.len() == height);
+    // SAFETY: as above, with the lengths that are tested; the last pixel is number (height - 1) * pitch + width - 1.
     unsafe {
         classic_picture_transform(
             pixels.as_ptr(),
             width,
             height,
+            pitch,
             coefficients.as_mut_ptr(),
             line.as_mut_ptr(),
         );
@@ -87,17 +92,19 @@ pub fn picture_value(
     coefficients: &[f64],
     width: usize,
     height: usize,
+    pitch: usize,
     x: (usize, usize),
     y: (usize, usize),
     factor: usize,
 ) -> f64 {
-    assert!(coefficients.len() == width * height && x.0 < width && y.0 < height);
+    assert!(pitch == width && coefficients.len() == width * height && x.0 < width && y.0 < height);
     // SAFETY: as above, with a place along each side.
     unsafe {
         classic_picture_value(
             coefficients.as_ptr(),
             width,
             height,
+            pitch,
             x.0,
             x.1,
             y.0,

@@ -9,6 +9,9 @@
 //! `main versions` measures the library beside an earlier version of it, if the program is built with one, and prints a line for each case that
 //! both have, its fields parted by tabs: the title, the library's time and that of the earlier version. Both get the same data, as above and
 //! taking turns; their results are not compared, since an earlier version may round otherwise, but neither may refuse.
+//!
+//! `main bands` measures the library on a band of a picture beside the same pixels closely packed, taking turns too, and prints a line like
+//! those: the title, the time of the band and that of the packed pixels. The answers and every number of their buffers are compared.
 
 /// The operation of the earlier version, if the program is built with one that has the C function of this name: each of its functions is told
 /// by `--cfg 'before="NAME"'`, and the crate `before` calls them.
@@ -40,9 +43,10 @@ use std::time::{Duration, Instant};
 
 /// What an operation reads: samples or pixels, or their coefficients, which in C are in double precision. One that gives a value reads a position
 /// along a row, or along both sides of a picture: k, the numerator j, and the factor. Factor and side stand here for the compiler not to know
-/// them, as it does not when it builds the library.
+/// them, as it does not when it builds the library. `packed` are the pixels of a band of the picture, closely packed.
 struct Input {
     samples: Vec<i16>,
+    packed: Vec<i16>,
     coefficients: Vec<i32>,
     real_coefficients: Vec<f64>,
     x: Vec<(usize, usize)>,
@@ -65,16 +69,17 @@ type Operation = fn(&Input, &mut Output);
 /// Makes the coefficients of the samples and answers as the library's transform does.
 type Making = fn(&mut Input) -> i64;
 
-/// One line of the table: what is measured, how often, and how many numbers it reads, writes and works in. `coefficients` makes them, for an
-/// operation that reads them. One that gives a value is called for each number that is written, at a position of its own; `positions` are the
-/// length of the row, or of each side of the picture, and the factor. The line is that of C. A number of the library is `unit` times the one of
-/// C, and may differ from it by `distance`: that is at least what is proved of the library's distance to the exact number, and some room for the
-/// error of C. `before` is the operation of the earlier version.
+/// One line of the table: what is measured, how often, and how many numbers it reads, writes and works in; `packed` counts the pixels of a band
+/// that are closely packed, for a case with one. `coefficients` makes those that an operation reads. One that gives a value is called for each
+/// number that is written, at a position of its own; `positions` are the length of the row, or of each side of the picture, and the factor. The
+/// line is that of C. A number of the library is `unit` times the one of C, and may differ from it by `distance`: that is at least what is proved
+/// of the library's distance to the exact number, and some room for the error of C. `before` is the operation of the earlier version.
 struct Case {
     name: &'static str,
     title: &'static str,
     repetitions: u64,
     samples: usize,
+    packed: usize,
     coefficients: Option<Making>,
     positions: Option<(usize, usize)>,
     numbers: usize,
@@ -90,6 +95,10 @@ struct Case {
 
 const ROW: usize = rust::LONGEST_ROW;
 const SIDE: usize = rust::LONGEST_SIDE;
+
+/// How wide a band of a picture is.
+const BAND: usize = 128;
+
 const FACTOR: usize = rust::LARGEST_FACTOR;
 
 /// One value takes too little time for the clock: a repetition asks for this many, and the time is that of all.
@@ -99,12 +108,93 @@ const VALUES: usize = 4096;
 const FIRST_X: u64 = 1 << 30;
 const FIRST_Y: u64 = 3 << 30;
 
-const CASES: [Case; 5] = [
+/// A band of a picture, closely packed.
+const PACKED_BAND: Case = Case {
+    name: "picture_transform_packed",
+    title: "picture transform, 128 x 512 pixels",
+    repetitions: 240,
+    samples: SIDE * SIDE,
+    packed: BAND * SIDE,
+    coefficients: None,
+    positions: None,
+    numbers: BAND * SIDE,
+    work: SIDE + 2 * rust::MARGIN,
+    line: SIDE,
+    unit: 4096.0,
+    distance: 8.0,
+    library: |from, to| {
+        to.answer = library::picture_transform(
+            &from.packed,
+            BAND,
+            SIDE,
+            BAND,
+            &mut to.numbers,
+            &mut to.work,
+        );
+    },
+    before: earlier!("picture_transform", |from, to| {
+        to.answer = before::picture_transform(
+            &from.packed,
+            BAND,
+            SIDE,
+            BAND,
+            &mut to.numbers,
+            &mut to.work,
+        );
+    }),
+    rust: |from, to| {
+        to.answer = rust::picture_transform(
+            &from.packed,
+            BAND,
+            SIDE,
+            BAND,
+            &mut to.numbers,
+            &mut to.work,
+        );
+    },
+    c: |from, to| {
+        classic::picture_transform(&from.packed, BAND, SIDE, BAND, &mut to.reals, &mut to.line);
+    },
+};
+
+/// The same pixels where they lie in the picture. An earlier version may know no bands.
+const BAND_IN_PICTURE: Case = Case {
+    name: "picture_transform_band",
+    title: "picture transform, a band of 128 x 512 in 512 x 512",
+    library: |from, to| {
+        to.answer = library::picture_transform(
+            &from.samples,
+            BAND,
+            SIDE,
+            SIDE,
+            &mut to.numbers,
+            &mut to.work,
+        );
+    },
+    before: None,
+    rust: |from, to| {
+        to.answer = rust::picture_transform(
+            &from.samples,
+            BAND,
+            SIDE,
+            SIDE,
+            &mut to.numbers,
+            &mut to.work,
+        );
+    },
+    c: |from, to| {
+        classic::picture_transform(&from.samples, BAND, SIDE, SIDE, &mut to.reals, &mut to.line);
+    },
+    ..PACKED_BAND
+};
+
+const CASES: [Case; 7] = [
     Case {
         name: "row_transform",
         title: "row transform, 4096 samples",
         repetitions: 2000,
         samples: ROW,
+        packed: 0,
         coefficients: None,
         positions: None,
         numbers: ROW,
@@ -130,6 +220,7 @@ const CASES: [Case; 5] = [
         title: "picture transform, 512 x 512 pixels",
         repetitions: 60,
         samples: SIDE * SIDE,
+        packed: 0,
         coefficients: None,
         positions: None,
         numbers: SIDE * SIDE,
@@ -142,27 +233,50 @@ const CASES: [Case; 5] = [
                 &from.samples,
                 SIDE,
                 SIDE,
+                SIDE,
                 &mut to.numbers,
                 &mut to.work,
             );
         },
         before: earlier!("picture_transform", |from, to| {
-            to.answer =
-                before::picture_transform(&from.samples, SIDE, SIDE, &mut to.numbers, &mut to.work);
+            to.answer = before::picture_transform(
+                &from.samples,
+                SIDE,
+                SIDE,
+                SIDE,
+                &mut to.numbers,
+                &mut to.work,
+            );
         }),
         rust: |from, to| {
-            to.answer =
-                rust::picture_transform(&from.samples, SIDE, SIDE, &mut to.numbers, &mut to.work);
+            to.answer = rust::picture_transform(
+                &from.samples,
+                SIDE,
+                SIDE,
+                SIDE,
+                &mut to.numbers,
+                &mut to.work,
+            );
         },
         c: |from, to| {
-            classic::picture_transform(&from.samples, SIDE, SIDE, &mut to.reals, &mut to.line);
+            classic::picture_transform(
+                &from.samples,
+                SIDE,
+                SIDE,
+                SIDE,
+                &mut to.reals,
+                &mut to.line,
+            );
         },
     },
+    PACKED_BAND,
+    BAND_IN_PICTURE,
     Case {
         name: "row_zoom",
         title: "row zoom, 4096 samples at factor 16",
         repetitions: 500,
         samples: ROW,
+        packed: 0,
         coefficients: Some(make_row),
         positions: None,
         numbers: rust::MOST_VALUES,
@@ -188,6 +302,7 @@ const CASES: [Case; 5] = [
         title: "row value, 4096 calls at factor 16",
         repetitions: 2000,
         samples: ROW,
+        packed: 0,
         coefficients: Some(make_row),
         positions: Some((ROW, FACTOR)),
         numbers: VALUES,
@@ -211,6 +326,7 @@ const CASES: [Case; 5] = [
         title: "picture value, 4096 calls at factor 16",
         repetitions: 200,
         samples: SIDE * SIDE,
+        packed: 0,
         coefficients: Some(make_picture),
         positions: Some((SIDE, FACTOR)),
         numbers: VALUES,
@@ -227,7 +343,8 @@ const CASES: [Case; 5] = [
             let positions = from.x.iter().zip(&from.y);
             for (real, (&x, &y)) in to.reals.iter_mut().zip(positions) {
                 let (side, factor) = (from.side, from.factor);
-                *real = classic::picture_value(&from.real_coefficients, side, side, x, y, factor);
+                *real =
+                    classic::picture_value(&from.real_coefficients, side, side, side, x, y, factor);
             }
         },
     },
@@ -246,7 +363,7 @@ const ODD_ZOOM: Case = Case {
     before: earlier!("row_zoom", |from, to| {
         to.answer = before::row_zoom(&from.coefficients, ODD_FACTOR, &mut to.numbers);
     }),
-    ..CASES[2]
+    ..CASES[4]
 };
 
 /// Row value at that factor, likewise.
@@ -254,7 +371,7 @@ const ODD_VALUE: Case = Case {
     name: "row_value_odd",
     title: "row value, 4096 calls at factor 7",
     positions: Some((ROW, ODD_FACTOR)),
-    ..CASES[3]
+    ..CASES[5]
 };
 
 /// Writes the values that calls answer. The answer is their count, or the number of the first refusal negated: no refusal fits in 32 bits.
@@ -284,13 +401,14 @@ fn write_row_values(
 }
 
 fn write_picture_values(
-    value: impl Fn(&[i32], usize, usize, (usize, usize), (usize, usize), usize) -> i64,
+    value: impl Fn(&[i32], usize, usize, usize, (usize, usize), (usize, usize), usize) -> i64,
     from: &Input,
     to: &mut Output,
 ) {
     let (side, factor) = (from.side, from.factor);
     let positions = from.x.iter().zip(&from.y);
-    let answers = positions.map(|(&x, &y)| value(&from.coefficients, side, side, x, y, factor));
+    let answers =
+        positions.map(|(&x, &y)| value(&from.coefficients, side, side, side, x, y, factor));
     write_values(answers, to);
 }
 
@@ -307,8 +425,8 @@ fn make_picture(input: &mut Input) -> i64 {
     let mut line = vec![0.0; side];
     let mut work = vec![0; side + 2 * rust::MARGIN];
     let (real, exact) = (&mut input.real_coefficients, &mut input.coefficients);
-    classic::picture_transform(&input.samples, side, side, real, &mut line);
-    library::picture_transform(&input.samples, side, side, exact, &mut work)
+    classic::picture_transform(&input.samples, side, side, side, real, &mut line);
+    library::picture_transform(&input.samples, side, side, side, exact, &mut work)
 }
 
 /// Fills the positions of one repetition along a row or a side of n: each is one of all that are on it. Which numbers it takes of those of the
@@ -334,6 +452,7 @@ impl Input {
         let (side, factor) = case.positions.unwrap_or_default();
         Input {
             samples: vec![0; case.samples],
+            packed: vec![0; case.packed],
             coefficients: vec![0; coefficients],
             real_coefficients: vec![0.0; coefficients],
             x: vec![(0, 0); positions],
@@ -346,6 +465,10 @@ impl Input {
     /// The data of one repetition.
     fn fill(&mut self, case: &Case, repetition: u64) -> Result<(), String> {
         data::fill(repetition, &mut self.samples);
+        let rows = self.samples.chunks_exact(SIDE);
+        for (row, to) in rows.zip(self.packed.chunks_exact_mut(BAND)) {
+            to.copy_from_slice(&row[..BAND]);
+        }
         if let Some((side, factor)) = case.positions {
             fill_positions(repetition, FIRST_X, side, factor, &mut self.x);
             fill_positions(repetition, FIRST_Y, side, factor, &mut self.y);
@@ -413,24 +536,21 @@ fn place_of_difference<Number: PartialEq>(one: &[Number], other: &[Number]) -> O
     one.iter().zip(other).position(|(a, b)| a != b)
 }
 
-/// What differs first between the results of library and Rust, if anything does.
-fn difference(library: &Output, rust: &Output) -> Option<String> {
-    if library.answer != rust.answer {
-        return Some(format!(
-            "the answers, {} and {}",
-            library.answer, rust.answer
-        ));
+/// What differs first between the results of two operations, of library and Rust for instance, if anything does.
+fn difference(one: &Output, other: &Output) -> Option<String> {
+    if one.answer != other.answer {
+        return Some(format!("the answers, {} and {}", one.answer, other.answer));
     }
-    if let Some(k) = place_of_difference(&library.numbers, &rust.numbers) {
+    if let Some(k) = place_of_difference(&one.numbers, &other.numbers) {
         return Some(format!(
             "number {k}, {} and {}",
-            library.numbers[k], rust.numbers[k]
+            one.numbers[k], other.numbers[k]
         ));
     }
-    let k = place_of_difference(&library.work, &rust.work)?;
+    let k = place_of_difference(&one.work, &other.work)?;
     Some(format!(
         "word {k} of work, {} and {}",
-        library.work[k], rust.work[k]
+        one.work[k], other.work[k]
     ))
 }
 
@@ -466,6 +586,15 @@ fn fault(case: &Case, [library, rust, c]: &[Output; 3]) -> Option<String> {
 fn refusal(_: &Case, versions: &[Output; 2]) -> Option<String> {
     let to = versions.iter().find(|to| to.answer < 0)?;
     Some(format!("refused, {}", to.answer))
+}
+
+/// What is wrong in the results for a band and for the same pixels closely packed, if anything is.
+fn band_fault(case: &Case, results: &[Output; 2]) -> Option<String> {
+    let [band, packed] = results;
+    refusal(case, results).or_else(|| {
+        let what = difference(band, packed)?;
+        Some(format!("band and packed pixels differ in {what}"))
+    })
 }
 
 /// The least times of operations, in microseconds. They take turns in going first, and after each repetition `wrong` looks at their results.
@@ -504,6 +633,18 @@ fn measure_versions(case: &Case) -> Option<Result<[f64; 2], String>> {
     let operations = [case.library, case.before?];
     let to = [Output::exact(case), Output::exact(case)];
     Some(least_times(case, operations, to, refusal))
+}
+
+/// The least times of the library for the band and for the same pixels closely packed.
+fn measure_bands() -> Result<[f64; 2], String> {
+    let case = BAND_IN_PICTURE;
+    let operations = [case.library, PACKED_BAND.library];
+    let to = [Output::exact(&case), Output::exact(&case)];
+    least_times(&case, operations, to, band_fault)
+}
+
+fn print_bands([band, packed]: [f64; 2]) {
+    println!("{}\t{band:.5}\t{packed:.5}", BAND_IN_PICTURE.title);
 }
 
 fn print_versions() -> Result<(), String> {
@@ -546,6 +687,8 @@ fn main() -> ExitCode {
         Ok(())
     } else if word == "versions" {
         print_versions()
+    } else if word == "bands" {
+        measure_bands().map(print_bands)
     } else if let Some(case) = CASES.iter().find(|case| case.name == word) {
         measure(case).map(print_times)
     } else if let Some(case) = files::CASES.iter().find(|case| case.name == word) {

@@ -4,6 +4,7 @@ const POLE: i64 = 575_416_509;
 pub const MARGIN: usize = 24;
 pub const LONGEST_ROW: usize = 4096;
 pub const LONGEST_SIDE: usize = 512;
+const GREATEST_PITCH: usize = 4096;
 pub const LARGEST_FACTOR: usize = 16;
 pub const MOST_VALUES: usize = (LONGEST_ROW - 1) * LARGEST_FACTOR + 1;
 pub const RUN: usize = 8;
@@ -83,31 +84,34 @@ pub fn row_transform(samples: &[i16], coefficients: &mut [i32], work: &mut [i64]
     n as i64
 }
 
-/// The count of coefficients written, or the number of the refusal negated.
+/// The count of coefficients written, or the number of the refusal negated. A row of pixels begins a pitch after the one before.
 pub fn picture_transform(
     pixels: &[i16],
     width: usize,
     height: usize,
+    pitch: usize,
     coefficients: &mut [i32],
     work: &mut [i64],
 ) -> i64 {
     if width == 0 || width > LONGEST_SIDE || height == 0 || height > LONGEST_SIDE {
         return -3;
     }
-    let count = width * height;
-    if pixels.len() != count {
+    if pitch < width || pitch > GREATEST_PITCH || pixels.len() < (height - 1) * pitch + width {
         return -4;
     }
+    let count = width * height;
     let Some(work) = work.get_mut(..width.max(height) + 2 * MARGIN) else {
         return -5;
     };
     let Some(coefficients) = coefficients.get_mut(..count) else {
         return -6;
     };
-    for (row, to) in pixels
-        .chunks_exact(width)
+    // The last row may end where the slice does, and its chunk is shorter then.
+    for (chunk, to) in pixels
+        .chunks(pitch)
         .zip(coefficients.chunks_exact_mut(width))
     {
+        let row = &chunk[..width];
         forward(width, work, |k| 65536 * i64::from(row[k]));
         backward(width, work, |k, coefficient| to[k] = coefficient);
     }
@@ -231,6 +235,7 @@ pub fn picture_value(
     coefficients: &[i32],
     width: usize,
     height: usize,
+    pitch: usize,
     x: (usize, usize),
     y: (usize, usize),
     factor: usize,
@@ -238,7 +243,7 @@ pub fn picture_value(
     if width == 0 || width > LONGEST_SIDE || height == 0 || height > LONGEST_SIDE {
         return REFUSED + 3;
     }
-    if coefficients.len() != width * height {
+    if pitch != width || coefficients.len() != width * height {
         return REFUSED + 4;
     }
     if factor == 0 || factor > LARGEST_FACTOR {

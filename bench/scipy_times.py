@@ -67,6 +67,22 @@ class Transform:
         self.filter(self.data, order=3, output=self.output, mode="mirror")
 
 
+class Band(Transform):
+    """The same of a band, which is a view of the first columns of a picture that is four times as wide."""
+
+    def load(self, repetition):
+        height, width = self.shape
+        self.data = samples(repetition, (height, 4 * width))[:, :width]
+
+
+class PackedBand(Band):
+    """The same of a band that is closely packed."""
+
+    def load(self, repetition):
+        super().load(repetition)
+        self.data = self.data.copy()
+
+
 class Zoom:
     """map_coordinates of coefficients in float64, which are made outside the time, at every position of the zoom."""
 
@@ -99,10 +115,12 @@ class Values(Zoom):
         self.positions = numpy.array([positions(repetition, first, n, FACTOR, self.count) for first, n in sides])
 
 
-# Each case: the call, the shape of its data, and a shape so small that only the call itself takes time.
+# Each case: the call, the shape of its data, where a picture's height comes first, and a shape so small that only the call itself takes time.
 CASES = {
     "row_transform": (Transform, (4096,), (2,)),
     "picture_transform": (Transform, (512, 512), (2, 2)),
+    "picture_transform_packed": (PackedBand, (512, 128), (2, 2)),
+    "picture_transform_band": (Band, (512, 128), (2, 2)),
     "row_zoom": (Zoom, (4096,), (2,)),
     "row_value": (Values, (4096,), (2,)),
     "picture_value": (Values, (512, 512), (2, 2)),

@@ -1,5 +1,5 @@
 """The operations in whole numbers and fractions, written from docs/SPECIFICATION.md alone: transforms and values to the last bit, the exact
-solution of the mirrored equations and the exact spline for the distances, and the refusals by lengths, sides and factors."""
+solution of the mirrored equations and the exact spline for the distances, and the refusals by lengths, sides, pitches and factors."""
 from fractions import Fraction
 from functools import lru_cache
 
@@ -7,6 +7,7 @@ POLE = 575416509  # Z
 MARGIN = 24
 LONGEST_ROW = 4096
 LONGEST_SIDE = 512
+GREATEST_PITCH = 4096
 FACTORS = range(1, 17)
 MOST_VALUES = (LONGEST_ROW - 1) * FACTORS[-1] + 1
 
@@ -29,6 +30,16 @@ def mirrored(index, n):
         return 0
     index %= 2 * (n - 1)
     return 2 * (n - 1) - index if index > n - 1 else index
+
+
+def least_slice(width, height, pitch):
+    """How many numbers a slice has at least in which the pixels of a picture stand: it may end behind the last pixel."""
+    return (height - 1) * pitch + width
+
+
+def picture_pixels(numbers, width, height, pitch):
+    """The pixels of a picture, row after row, out of a slice in which each row starts a pitch behind the one before."""
+    return [numbers[y * pitch + x] for y in range(height) for x in range(width)]
 
 
 # ----- Transforms -----
@@ -170,7 +181,7 @@ def picture_value(coefficients, width, x, y, m):
     return nearest(picture_sum(coefficients, width, x, y, m), 576 * m**6)
 
 
-# ----- Refusals by lengths, sides and factors -----
+# ----- Refusals by lengths, sides, pitches and factors -----
 
 
 def length_refusal(n):
@@ -180,11 +191,21 @@ def length_refusal(n):
     return 2 if n > LONGEST_ROW else None
 
 
-def sides_refusal(count, width, height):
-    """The refusal of a picture of these sides whose slice holds so many numbers, or None."""
-    if not (1 <= width <= LONGEST_SIDE and 1 <= height <= LONGEST_SIDE):
-        return 3
-    return 4 if count != width * height else None
+def sides_refusal(width, height):
+    """The refusal of a picture with these sides, or None."""
+    return None if 1 <= width <= LONGEST_SIDE and 1 <= height <= LONGEST_SIDE else 3
+
+
+def pixels_refusal(count, width, height, pitch):
+    """The refusal of a picture whose pixels stand in a slice of so many numbers, or None."""
+    stand_there = width <= pitch <= GREATEST_PITCH and count >= least_slice(width, height, pitch)
+    return sides_refusal(width, height) or (None if stand_there else 4)
+
+
+def coefficients_refusal(count, width, height, pitch):
+    """The refusal of a picture whose coefficients are read from a slice of so many numbers, or None: they are closely packed and fill it."""
+    fill_it = pitch == width and count == width * height
+    return sides_refusal(width, height) or (None if fill_it else 4)
 
 
 def factor_refusal(m):

@@ -29,10 +29,10 @@ FLOAT = [ctypes.c_void_p]  # where it is written
 # The parameters of each exported function, which is harness_ and this name. Every one returns 64 bits.
 PARAMETERS = {
     "row_transform": 3 * SLICE,
-    "picture_transform": SLICE + 2 * SIZE + 2 * SLICE,
+    "picture_transform": SLICE + 3 * SIZE + 2 * SLICE,
     "row_value": SLICE + 3 * SIZE,
     "row_zoom": SLICE + SIZE + SLICE,
-    "picture_value": SLICE + 7 * SIZE,
+    "picture_value": SLICE + 8 * SIZE,
     "wav_read": 2 * SLICE,
     "onset_find": SLICE + SIZE + VALUE + 2 * FLOAT,
 }

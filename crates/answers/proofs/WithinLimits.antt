@@ -1,13 +1,13 @@
 -- A factor and the sides of a picture for which the test of the refusal fails are within their limits. Assumes nothing.
 use mathlib.Core.Bool.{false}
 use mathlib.Core.Path.{_≡_}
-use mathlib.Mathlib.Data.Bool.Basic.{or-eq-false-eq-eq-false-and-eq-false}
-use Prim.Native.Nat.{ℕ, _≤_, _^_}
+use Prim.Native.Nat.{ℕ, _-_, _≤_, _^_}
 use native.Mathlib.Nat.{mul-le-mul}
-use Rattle.bspline.specs.Limits.{longestSide, greatestFactor}
-use Rattle.bspline.specs.PictureLayout.{Shape, area}
+use native.Mathlib.Omega.{arith}
+use Rattle.bspline.specs.Limits.{greatestPitch, greatestFactor}
+use Rattle.bspline.specs.PictureLayout.{Shape, area, extent}
 use Rattle.bspline.specs.Refusals.{outside, badSides}
-use Rattle.bspline.proofs.Refusals.{one-to}
+use Rattle.bspline.proofs.Refusals.{one-to, sides-within}
 use Rattle.answers.specs.Limits.{Factor, GoodSides}
 
 pub factor : (m : ℕ) → outside greatestFactor m ≡ false → Factor m
@@ -15,11 +15,14 @@ factor m e = let f = one-to greatestFactor m e in record { some = f .0; small = 
 
 pub good-sides : (d : Shape) → badSides d ≡ false → GoodSides d
 good-sides d e =
-    let both = or-eq-false-eq-eq-false-and-eq-false (outside longestSide (d .width)) (outside longestSide (d .height)) .0 e in
-    let w = one-to longestSide (d .width) (both .0) in
-    let h = one-to longestSide (d .height) (both .1) in
-    record { wide = w .0; high = h .0; narrow = w .1; low = h .1 }
+    let within = sides-within d e in
+    record { wide = within .0 .0; high = within .1 .0; narrow = within .0 .1; low = within .1 .1 }
 
--- such a picture has so few pixels that their count fits
+-- such a picture has so few pixels that their count fits, and at a pitch in range reaches over so few numbers
 pub area-small : (d : Shape) → GoodSides d → area d ≤ 2 ^ 18
 area-small d good = mul-le-mul (good .narrow) (good .low)
+
+pub extent-small : (d : Shape) → GoodSides d → d .pitch ≤ greatestPitch → extent d ≤ 2 ^ 22
+extent-small d good near =
+    let rows : d .height - 1 ≤ 511 = omega (arith, good .low) in
+    omega (arith, mul-le-mul rows near, good .narrow)

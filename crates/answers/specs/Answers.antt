@@ -5,7 +5,7 @@ use Rattle.bspline.specs.PictureLayout as layout
 use Rattle.bspline.specs.Values as values
 use Rattle.answers.specs.declared.Position.{Position}
 use Rattle.answers.specs.declared.Refusal.{Refusal}
-use Rattle.answers.specs.declared.Refusal.the-variants.{EmptyRow, LongRow, BadSide, WrongCount, ShortWork, ShortCoefficients, BadFactor, OffData, ShortValues, BadText, BadFile, OtherFormat, UnfitSamples}
+use Rattle.answers.specs.declared.Refusal.the-variants.{EmptyRow, LongRow, BadSide, WrongLayout, ShortWork, ShortCoefficients, BadFactor, OffData, ShortValues, BadText, BadFile, OtherFormat, UnfitSamples}
 use Rattle.answers.specs.declared.Shape.{Shape}
 use Rattle.answers.specs.declared.Valued.{Valued}
 use Rattle.answers.specs.declared.Valued.the-variants.{Value, Refused as NoValue}
@@ -17,7 +17,7 @@ abbrev pub number : Refusal → ℕ
 number EmptyRow = 1
 number LongRow = 2
 number BadSide = 3
-number WrongCount = 4
+number WrongLayout = 4
 number ShortWork = 5
 number ShortCoefficients = 6
 number BadFactor = 7
@@ -45,7 +45,7 @@ Promised (refusal k) P = Unit
 
 -- the picture that a struct describes
 abbrev pub described : Shape → layout.Shape
-described s = record { width = s .width; height = s .height }
+described s = record { width = s .width; height = s .height; pitch = s .pitch }
 
 -- the position that a struct gives
 abbrev pub placed : Position → values.Position

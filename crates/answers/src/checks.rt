@@ -1,12 +1,14 @@
-// Which factors, sides and positions are refused.
+// Which factors, sides, layouts and positions are refused.
 ghost use mathlib.Core.Path.{_≡_};
 ghost use Prim.Native.Nat.{_<_};
 ghost use Rattle.bspline.specs.Limits.{greatestFactor};
-ghost use Rattle.bspline.specs.PictureLayout.{sides};
-ghost use Rattle.bspline.specs.Refusals.{badSides, offData, outside as Refusals·outside};
-ghost use Rattle.answers.specs.Answers.{placed};
+ghost use Rattle.bspline.specs.Refusals.{badCoefficients, badPixels, badSides, offData, outside as Refusals·outside};
+ghost use Rattle.answers.specs.Limits.{GoodSides};
+ghost use Rattle.answers.specs.Answers.{described, placed};
 use crate::Position;
+use crate::Shape;
 use crate::limits::GREATEST_FACTOR;
+use crate::limits::GREATEST_PITCH;
 use crate::limits::LONGEST_SIDE;
 
 // Whether a number is 0 or above a limit.
@@ -24,10 +26,36 @@ pub fn bad_factor(m: usize) -> bool
 }
 
 // Whether a picture is refused for either of its sides.
-pub fn bad_sides(width: usize, height: usize) -> bool
-    ensures { λ r. ⌜ r ≡ badSides (sides width height) ⌝ }
+pub fn bad_sides(shape: Shape) -> bool
+    ensures { λ r. ⌜ r ≡ badSides (described shape) ⌝ }
 {
-    outside(LONGEST_SIDE, width) || outside(LONGEST_SIDE, height)
+    outside(LONGEST_SIDE, shape.width) || outside(LONGEST_SIDE, shape.height)
+}
+
+// Whether a slice of pixels is refused for the pitch or for its length. The pitch is tested before it is multiplied.
+pub fn bad_pixels(shape: Shape, length: usize) -> bool
+    requires { ⌜ GoodSides (described shape) ⌝ }
+    ensures { λ r. ⌜ r ≡ badPixels (described shape) length ⌝ }
+{
+    let width = shape.width;
+    let height = shape.height;
+    let pitch = shape.pitch;
+    if pitch < width {
+        return true;
+    }
+    if GREATEST_PITCH < pitch {
+        return true;
+    }
+    length < (height - 1) * pitch + width
+}
+
+// Whether a slice of picture coefficients is refused for the pitch or for its length: both are those of the closely packed picture.
+pub fn bad_coefficients(shape: Shape, length: usize) -> bool
+    requires { ⌜ GoodSides (described shape) ⌝ }
+    ensures { λ r. ⌜ r ≡ badCoefficients (described shape) length ⌝ }
+{
+    let width = shape.width;
+    shape.pitch != width || length != width * shape.height
 }
 
 // Whether a position is off the n data.

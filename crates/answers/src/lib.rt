@@ -12,7 +12,7 @@ pub enum Refusal {
     EmptyRow,
     LongRow,
     BadSide,
-    WrongCount,
+    WrongLayout,
     ShortWork,
     ShortCoefficients,
     BadFactor,
@@ -33,7 +33,7 @@ impl Refusal {
             Refusal::EmptyRow => 1,
             Refusal::LongRow => 2,
             Refusal::BadSide => 3,
-            Refusal::WrongCount => 4,
+            Refusal::WrongLayout => 4,
             Refusal::ShortWork => 5,
             Refusal::ShortCoefficients => 6,
             Refusal::BadFactor => 7,
@@ -66,10 +66,11 @@ pub enum Valued {
     Refused(Refusal),
 }
 
-// A picture's description: its sides.
+// A picture's description: its sides, and the distance from one row's start to the next, counted in numbers of the slice.
 pub struct Shape {
     pub width: usize,
     pub height: usize,
+    pub pitch: usize,
 }
 
 // A position between the data of a row, or along one side of a picture: k + j / m, where the factor m is passed beside it.

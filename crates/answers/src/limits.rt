@@ -6,6 +6,9 @@ pub const LONGEST_ROW: usize = 4096;
 // The longest side of a picture.
 pub const LONGEST_SIDE: usize = 512;
 
+// The greatest distance from the start of one row of pixels to the next.
+pub const GREATEST_PITCH: usize = 4096;
+
 // The greatest factor.
 pub const GREATEST_FACTOR: usize = 16;
 

@@ -6,8 +6,8 @@ use native.Mathlib.Numerals.{add-one}
 use native.Mathlib.Omega.{arith}
 use borrow.Rule.Slice.PartMut.{midOf, postOf, putMid, same-len-mid, mid-len}
 use lib.IntN.{ℤ, pos}
-use lib.ListN.{length, take, set, length-set, length-append}
-use lib.Seq.{length-take-le, take-suc, take-suc-set, take-all, take-add, take-at}
+use lib.ListN.{length, take, drop, set, length-set, length-append}
+use lib.Seq.{ext-getD, getD-take, getD-drop, length-take-le, take-suc, take-suc-set, take-all, take-add, take-at}
 use Rattle.bspline.specs.Lists.{at}
 
 pub record Filled (target l : List ℤ) (i : ℕ) : Type 0 where
@@ -27,6 +27,17 @@ filled-more {target} {l} {i} v f h e =
       same = rw (add-one, take-suc-set l i v k, f .same, e) (sym (take-suc target i (pos 0) h));
     }
 
+-- ---- a part of a list, by its places
+pub part-at : (l : List ℤ) (i n j : ℕ) → j < n → at (midOf i n l) j ≡ at l (i + j)
+part-at l i n j h = getD-take n (drop i l) j (pos 0) h ∙ getD-drop i l j (pos 0)
+
+-- as many numbers that are the same, each at its place, are the part
+pub part-is : (l v : List ℤ) (i e : ℕ) → e ≤ length l → length v ≡ e - i → ((j : ℕ) → j < e - i → at v j ≡ at l (i + j)) → v ≡ midOf i (e - i) l
+part-is l v i e h size same =
+    ext-getD (pos 0) v (midOf i (e - i) l) (size ∙ sym (mid-len i e l h))
+    (λ j b. let s : j < e - i = omega (arith, size) in same j s ∙ sym (part-at l i (e - i) j s))
+
+-- ---- filled part after part
 -- the part from place i up to place e is replaced by the target's own
 pub filled-part : {target l : List ℤ} {i : ℕ} (e : ℕ) (v : List ℤ) → Filled target l i → i ≤ e → e ≤ length target →
     v ≡ midOf i (e - i) target → Filled target (putMid i (e - i) l v) e

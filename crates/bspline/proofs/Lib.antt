@@ -22,6 +22,7 @@ pub mod Weights
 pub mod Values
 pub mod Zoom
 pub mod Operations
+pub mod SamePictures
 pub mod Negation
 pub mod ReversedPolarity
 pub mod Worked

@@ -13,16 +13,16 @@ use lib.IntN.{ℤ, pos, _*ℤ_}
 use lib.ListN.{length, take, drop, length-append}
 use lib.Seq.{getD-take, take-at}
 use Rattle.bspline.specs.Exact.{RowAccurate, PictureAccurate}
-use Rattle.bspline.specs.Limits.{longestRow, longestSide, greatestFactor, workWords}
+use Rattle.bspline.specs.Limits.{longestRow, greatestFactor, workWords}
 use Rattle.bspline.specs.Lists.{at}
 use Rattle.bspline.specs.Outcomes.{overwrite, Transformed, Evaluated, refused, accepted, rowTransform, rowZoom, rowValue, pictureTransform, pictureValue}
-use Rattle.bspline.specs.PictureLayout.{Shape, area, place, pixel}
-use Rattle.bspline.specs.Refusals.{Answer, count, value, refusal, Test, outside, badSides, offData, refusal-1, refusal-2, refusal-3, refusal-4-pixels, refusal-4-coefficients, refusal-5, refusal-6, refusal-7, refusal-8, refusal-9, judged}
+use Rattle.bspline.specs.PictureLayout.{Shape, packed, area, place, pixel}
+use Rattle.bspline.specs.Refusals.{Answer, count, value, refusal, Test, badSides, offData, refusal-1, refusal-2, refusal-3, refusal-4-pixels, refusal-4-coefficients, refusal-5, refusal-6, refusal-7, refusal-8, refusal-9, judged}
 use Rattle.bspline.specs.Transforms.{rowCoefficients, pictureCoefficients}
 use Rattle.bspline.specs.Values.{Position, zoomPosition, zoomCount, zoomValues, valueInRow, valueInPicture, RowValueAccurate, PictureValueAccurate}
 use Rattle.bspline.proofs.Lists.{tabulate-from-zero}
 use Rattle.bspline.proofs.PictureLayout.{place-below}
-use Rattle.bspline.proofs.Refusals.{Passed, judged-passed, judged-accepted, one-to, inside, on-data, sample-on-data}
+use Rattle.bspline.proofs.Refusals.{Passed, judged-passed, judged-accepted, one-to, inside, sides-within, on-data, sample-on-data}
 use Rattle.bspline.proofs.Transforms.{row-length, picture-length}
 use Rattle.bspline.proofs.Zoom.{position-at, zoom-length}
 use Rattle.bspline.proofs.Values.{row-value-accurate, sample-returns, picture-value-accurate, pixel-returns}
@@ -219,17 +219,6 @@ picture-taken d p buffer work C W n e a =
     record { count = t .1; sides = t .0 .0; room = t .3; begins = t .2; accurate = a }
 
 module _ (d : Shape) (p C : List ℤ) (n : ℕ) (taken : PictureTaken d p C n) where
-  -- each side is from 1 to the longest
-  wide : (0 < d .width) × (d .width ≤ longestSide)
-  wide =
-      one-to longestSide (d .width)
-      (or-eq-false-eq-eq-false-and-eq-false (outside longestSide (d .width)) (outside longestSide (d .height)) .0 (taken .sides) .0)
-
-  high : (0 < d .height) × (d .height ≤ longestSide)
-  high =
-      one-to longestSide (d .height)
-      (or-eq-false-eq-eq-false-and-eq-false (outside longestSide (d .width)) (outside longestSide (d .height)) .0 (taken .sides) .1)
-
   -- the numbers are as many as the pixels, and as accurate as in the whole buffer
   full : length (take n C) ≡ area d
   full = ap length (taken .begins) ∙ picture-length d p
@@ -237,31 +226,32 @@ module _ (d : Shape) (p C : List ℤ) (n : ℕ) (taken : PictureTaken d p C n) w
   close : PictureAccurate d p (take n C)
   close = record {
     accurate = λ c solves x y h g.
-        rw (getD-take n C (place d x y) (pos 0) (omega (arith, taken .count, place-below d x y h g))) (taken .accurate .accurate c solves x y h g);
+        rw (getD-take n C (place (packed d) x y) (pos 0) (omega (arith, taken .count, place-below d x y h g))) (taken .accurate .accurate c solves x y h g);
   }
 
   -- whatever value picture value answers of them is within 15/16
-  pub picture-value-near : (m : ℕ) (px py : Position) (v : ℤ) → pictureValue m d (take n C) px py ≡ value v → PictureValueAccurate m d p px py v
+  pub picture-value-near : (m : ℕ) (px py : Position) (v : ℤ) →
+      pictureValue m (packed d) (take n C) px py ≡ value v → PictureValueAccurate m d p px py v
   unfolding pictureValue
   picture-value-near m px py v e =
-      let t = value-taken (picture-value-tests m d (take n C) px py) v (valueInPicture m d (take n C) px py) e in
+      let t = value-taken (picture-value-tests m (packed d) (take n C) px py) v (valueInPicture m (packed d) (take n C) px py) e in
       let factor = one-to greatestFactor m (t .0 .1 .1 .0) in
       let both = or-eq-false-eq-eq-false-and-eq-false (offData m (d .width) px) (offData m (d .height) py) .0 (t .0 .1 .1 .1 .0) in
-      let on-x = on-data m (d .width) px (wide .0) (both .0) in
-      let on-y = on-data m (d .height) py (high .0) (both .1) in
+      let on-x = on-data m (d .width) px (sides-within d (taken .sides) .0 .0) (both .0) in
+      let on-y = on-data m (d .height) py (sides-within d (taken .sides) .1 .0) (both .1) in
       rw (t .1)
-      (picture-value-accurate m (factor .0) d p (take n C) px py (omega (arith, on-x .0)) (omega (arith, on-y .0)) (wide .0) (high .0) close)
+      (picture-value-accurate m (factor .0) d p (take n C) px py (omega (arith, on-x .0)) (omega (arith, on-y .0)) (sides-within d (taken .sides) .0 .0) (sides-within d (taken .sides) .1 .0) close)
 
   -- and at a pixel it answers 256 times the pixel
   pub picture-value-returns : (m x y : ℕ) → 0 < m → m ≤ greatestFactor → x < d .width → y < d .height →
-      pictureValue m d (take n C) (record { k = x; j = 0 }) (record { k = y; j = 0 }) ≡ value (pos 256 *ℤ pixel d p x y)
+      pictureValue m (packed d) (take n C) (record { k = x; j = 0 }) (record { k = y; j = 0 }) ≡ value (pos 256 *ℤ pixel d p x y)
   unfolding pictureValue
   picture-value-returns m x y some small left above =
-      judged-passed (picture-value-tests m d (take n C) (record { k = x; j = 0 }) (record { k = y; j = 0 })) refusal
-      (value (valueInPicture m d (take n C) (record { k = x; j = 0 }) (record { k = y; j = 0 }))) (
+      judged-passed (picture-value-tests m (packed d) (take n C) (record { k = x; j = 0 }) (record { k = y; j = 0 })) refusal
+      (value (valueInPicture m (packed d) (take n C) (record { k = x; j = 0 }) (record { k = y; j = 0 }))) (
         taken .sides,
         (
-          rw (eq-eqb (length (take n C)) (area d) full) refl,
+          rw (eq-eqb (d .width) (d .width) refl, eq-eqb (length (take n C)) (area d) full) refl,
           (
             inside greatestFactor m some small,
             (rw (sample-on-data m (d .width) x some left, sample-on-data m (d .height) y some above) refl, tt),

@@ -1,13 +1,15 @@
 -- What is known where the test of a refusal fails, and of an outcome that tests decide. Assumes nothing.
-use mathlib.Core.Bool.{true, false, _||_, _&&_, and-false}
+use mathlib.Core.Bool.{true, false, not, _||_, _&&_, and-false}
 use mathlib.Core.List.{List, [], _∷_}
 use mathlib.Core.Path.{_≡_, refl, sym, ap}
 use mathlib.Mathlib.Data.Bool.Basic.{or-eq-false-eq-eq-false-and-eq-false}
 use Prim.Native.Nat.{ℕ, _-_, _≤_, _<_}
 use native.Mathlib.Omega.{arith}
-use borrow.Author.Tests.{ltb-false, leb-false, eqb-false, ne-eqb, lt-leb, le-ltb}
+use borrow.Author.Tests.{ltb-false, leb-false, eqb-true, eqb-false, not-false, ne-eqb, lt-leb, le-ltb}
 use lib.Dec.{eqb, leb, ltb}
-use Rattle.bspline.specs.Refusals.{Answer, Test, _when_, outside, offData, judged}
+use Rattle.bspline.specs.Limits.{longestSide}
+use Rattle.bspline.specs.PictureLayout.{Shape, packed, area, extent}
+use Rattle.bspline.specs.Refusals.{Answer, Test, _when_, outside, badSides, badPitch, badPixels, badCoefficients, offData, judged}
 use Rattle.bspline.specs.Values.{Position}
 
 -- a number that is neither 0 nor above a limit
@@ -19,6 +21,25 @@ one-to limit n e =
 -- and a number from 1 to the limit is not
 pub inside : (limit n : ℕ) → 0 < n → n ≤ limit → outside limit n ≡ false
 inside limit n some few = rw (ne-eqb n 0 (λ e. omega arith), le-ltb limit n few)
+
+-- each side of a picture that is not refused for them
+pub sides-within : (d : Shape) → badSides d ≡ false → ((0 < d .width) × (d .width ≤ longestSide)) × ((0 < d .height) × (d .height ≤ longestSide))
+sides-within d e =
+    let both = or-eq-false-eq-eq-false-and-eq-false (outside longestSide (d .width)) (outside longestSide (d .height)) .0 e in
+    (one-to longestSide (d .width) (both .0), one-to longestSide (d .height) (both .1))
+
+-- pixels that are not refused lie in a slice that holds the picture
+pub pixels-held : (d : Shape) (n : ℕ) → badPixels d n ≡ false → extent d ≤ n
+pixels-held d n e = ltb-false n (extent d) (or-eq-false-eq-eq-false-and-eq-false (badPitch d) (ltb n (extent d)) .0 e .1)
+
+-- coefficients that are not refused are closely packed, and as many as the picture has
+pub coefficients-packed : (d : Shape) (n : ℕ) → badCoefficients d n ≡ false → (d ≡ packed d) × (n ≡ area d)
+coefficients-packed d n e =
+    let both = or-eq-false-eq-eq-false-and-eq-false (not (eqb (d .pitch) (d .width))) (not (eqb n (area d))) .0 e in
+    (ap (λ (q : ℕ). record { width = d .width; height = d .height; pitch = q }) (equal (d .pitch) (d .width) (both .0)), equal n (area d) (both .1))
+  where
+    equal : (a b : ℕ) → not (eqb a b) ≡ false → a ≡ b
+    equal a b f = eqb-true a b (not-false (eqb a b) f)
 
 -- no test's condition holds
 abbrev pub Passed : List Test → Type 0

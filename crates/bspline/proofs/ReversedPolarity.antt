@@ -1,7 +1,8 @@
 -- The law of negation about operations: what the two transforms leave of negated samples is the negation of what they leave of the samples, what row
 -- value, row zoom and picture value answer of negated coefficients is the opposite, and so negated samples have negated values. Each call may
--- have buffers of its own. A call is refused exactly if the other is, where their buffers are as long. The laws hold for every list of whole
--- numbers; a caller's samples are 16 bits wide, and have a negation of that width if none is -32768. Assumes nothing.
+-- have buffers of its own, and a negated picture its own slice and pitch. A call is refused exactly if the other is, where their buffers are as long
+-- and neither or both are refused for their pixels. The laws hold for every list of whole numbers; a caller's samples are 16 bits wide, and have a
+-- negation of that width if none is -32768. Assumes nothing.
 use mathlib.Core.List.{List}
 use mathlib.Core.Path.{_≡_, sym, ap, _∙_}
 use Prim.Native.Nat.{ℕ, max}
@@ -10,13 +11,14 @@ use lib.ListN.{length, take, length-map}
 use Rattle.bspline.specs.Limits.{workWords}
 use Rattle.bspline.specs.Negation.{negated, opposite}
 use Rattle.bspline.specs.Outcomes.{overwrite, Transformed, Evaluated, refused, accepted, rowTransform, rowZoom, rowValue, pictureTransform, pictureValue}
-use Rattle.bspline.specs.PictureLayout.{Shape, area}
-use Rattle.bspline.specs.Refusals.{count, value, refusal, Test, judged}
+use Rattle.bspline.specs.PictureLayout.{Shape, packed, area, SamePicture}
+use Rattle.bspline.specs.Refusals.{count, value, refusal, Test, badPixels, judged}
 use Rattle.bspline.specs.Transforms.{rowCoefficients, pictureCoefficients}
 use Rattle.bspline.specs.Values.{Position, valueInRow, valueInPicture, zoomCount, zoomValues}
 use Rattle.bspline.proofs.Negation.{row-coefficients-negated, picture-coefficients-negated, value-in-row-negated, value-in-picture-negated, zoom-values-negated}
 use Rattle.bspline.proofs.Operations.{row-tests, row-value-tests, zoom-tests, picture-tests, picture-value-tests, row-left, picture-left, zoom-left}
 use Rattle.bspline.proofs.Refusals.{judged-map}
+use Rattle.bspline.proofs.SamePictures.{picture-coefficients-same}
 
 -- a list and its negation are as long
 same-length : (l : List ℤ) → length (negated l) ≡ length l
@@ -71,14 +73,16 @@ row-transform-alike s buffer work buffer′ work′ e f =
     transform-answer (row-tests (negated s) buffer′ work′) (length (negated s)) (workWords (length (negated s))) (rowCoefficients (negated s)) buffer′ work′
     ∙ rw (same-length s, e, f) (sym (transform-answer (row-tests s buffer work) (length s) (workWords (length s)) (rowCoefficients s) buffer work))
 
--- and so are a picture and its negation
-pub picture-transform-alike : (d : Shape) (p buffer work buffer′ work′ : List ℤ) → length buffer′ ≡ length buffer → length work′ ≡ length work →
-    pictureTransform d (negated p) buffer′ work′ .answer ≡ pictureTransform d p buffer work .answer
+-- and so are a picture and its negation, which may lie in a slice of its own, by a description of its own: if both are refused for their pixels, or
+-- neither is
+pub picture-transform-alike : (d : Shape) (p : List ℤ) (e : Shape) (q buffer work buffer′ work′ : List ℤ) → SamePicture d (negated p) e q →
+    badPixels e (length q) ≡ badPixels d (length p) → length buffer′ ≡ length buffer → length work′ ≡ length work →
+    pictureTransform e q buffer′ work′ .answer ≡ pictureTransform d p buffer work .answer
 unfolding pictureTransform
-picture-transform-alike d p buffer work buffer′ work′ e f =
-    let words = workWords (max (d .width) (d .height)) in
-    transform-answer (picture-tests d (negated p) buffer′ work′) (area d) words (pictureCoefficients d (negated p)) buffer′ work′
-    ∙ rw (same-length p, e, f) (sym (transform-answer (picture-tests d p buffer work) (area d) words (pictureCoefficients d p) buffer work))
+picture-transform-alike d p e q buffer work buffer′ work′ same b f g =
+    transform-answer (picture-tests e q buffer′ work′) (area e) (workWords (max (e .width) (e .height))) (pictureCoefficients e q) buffer′ work′
+    ∙ rw (b, ← same .wide, ← same .high, f, g)
+    (sym (transform-answer (picture-tests d p buffer work) (area d) (workWords (max (d .width) (d .height))) (pictureCoefficients d p) buffer work))
 
 module _ (s buffer work C W buffer′ work′ C′ W′ : List ℤ) (n n′ : ℕ)
     (taken : record { answer = count n; coefficients = C; work = W } ≡ rowTransform s buffer work)
@@ -102,16 +106,21 @@ module _ (s buffer work C W buffer′ work′ C′ W′ : List ℤ) (n n′ : �
   reversed-row-zoom m values vs values′ vs′ q q′ e e′ =
       row-zoom-negated m (take n C) values vs values′ vs′ q q′ e (e′ ∙ ap (λ c. rowZoom m c values′) (row-transform-negated .1))
 
-module _ (d : Shape) (p buffer work C W buffer′ work′ C′ W′ : List ℤ) (n n′ : ℕ)
+-- the picture of the negated pixels may lie in a slice of its own, by a description of its own
+module _ (d : Shape) (p : List ℤ) (e : Shape) (q buffer work C W buffer′ work′ C′ W′ : List ℤ) (n n′ : ℕ) (same : SamePicture d (negated p) e q)
     (taken : record { answer = count n; coefficients = C; work = W } ≡ pictureTransform d p buffer work)
-    (reversed : record { answer = count n′; coefficients = C′; work = W′ } ≡ pictureTransform d (negated p) buffer′ work′) where
+    (reversed : record { answer = count n′; coefficients = C′; work = W′ } ≡ pictureTransform e q buffer′ work′) where
   -- of the negated pixels the negated coefficients are left, as many
   pub picture-transform-negated : (n′ ≡ n) × (take n′ C′ ≡ negated (take n C))
   picture-transform-negated =
       let t = picture-left d p buffer work C W n taken in
-      let t′ = picture-left d (negated p) buffer′ work′ C′ W′ n′ reversed in
-      (t′ .1 ∙ sym (t .1), t′ .2 ∙ picture-coefficients-negated d p ∙ ap negated (sym (t .2)))
+      let t′ = picture-left e q buffer′ work′ C′ W′ n′ reversed in (
+        t′ .1 ∙ rw (← same .wide, ← same .high) (sym (t .1)),
+        t′ .2 ∙ sym (picture-coefficients-same same) ∙ picture-coefficients-negated d p ∙ ap negated (sym (t .2)),
+      )
 
   -- so at every two positions the opposite value is answered of them, or the same refusal
-  pub reversed-picture-value : (m : ℕ) (px py : Position) → pictureValue m d (take n′ C′) px py ≡ opposite (pictureValue m d (take n C) px py)
-  reversed-picture-value m px py = ap (λ c. pictureValue m d c px py) (picture-transform-negated .1) ∙ picture-value-negated m d (take n C) px py
+  pub reversed-picture-value : (m : ℕ) (px py : Position) →
+      pictureValue m (packed d) (take n′ C′) px py ≡ opposite (pictureValue m (packed d) (take n C) px py)
+  reversed-picture-value m px py =
+      ap (λ c. pictureValue m (packed d) c px py) (picture-transform-negated .1) ∙ picture-value-negated m (packed d) (take n C) px py

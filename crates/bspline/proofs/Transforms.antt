@@ -6,7 +6,7 @@ use native.Mathlib.Omega.{arith}
 use lib.IntN.{ℤ, pos, _*ℤ_}
 use lib.ListN.{length, List·getD-append}
 use Rattle.bspline.specs.Exact.{RowAccurate, PictureAccurate}
-use Rattle.bspline.specs.PictureLayout.{Shape, area, place}
+use Rattle.bspline.specs.PictureLayout.{Shape, packed, area, place}
 use Rattle.bspline.specs.Lists.{at}
 use Rattle.bspline.specs.Transforms.{rowCoefficients, secondPass, pictureCoefficients}
 use Rattle.bspline.proofs.PictureLayout.{raster-length, place-below}
@@ -30,5 +30,5 @@ row-begins s C rest e a = record {
 pub picture-begins : (d : Shape) (p C rest : List ℤ) → length C ≡ area d → PictureAccurate d p C → PictureAccurate d p (C ++ rest)
 picture-begins d p C rest e a = record {
   accurate = λ c solves x y h g.
-      rw (List·getD-append C rest (pos 0) (place d x y) (omega (arith, place-below d x y h g))) (a .accurate c solves x y h g);
+      rw (List·getD-append C rest (pos 0) (place (packed d) x y) (omega (arith, place-below d x y h g))) (a .accurate c solves x y h g);
 }

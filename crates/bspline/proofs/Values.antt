@@ -17,9 +17,9 @@ use Rattle.integers.proofs.Linear.{reify, show}
 use Rattle.integers.proofs.Ring.{polys, ring, read-poly, show-poly}
 use Rattle.integers.proofs.Rounding.{round-near}
 use Rattle.bspline.specs.Exact.{Fractions, tridiagonal, Solves, Grid, row, column, SolvesPicture, whole, wholeGrid, Near, RowAccurate, PictureAccurate}
-use Rattle.bspline.specs.PictureLayout.{Shape, pixel}
+use Rattle.bspline.specs.PictureLayout.{Shape, packed, pixel}
 use Rattle.bspline.specs.Lists.{at}
-use Rattle.bspline.specs.Values.{Position, rowSum, pictureSum, valueInRow, valueInPicture, RowValueAccurate, PictureValueAccurate}
+use Rattle.bspline.specs.Values.{Position, rowSum, block, pictureSum, valueInRow, valueInPicture, RowValueAccurate, PictureValueAccurate}
 use Rattle.bspline.proofs.Existence.{solution, solution-solves, picture-solution, picture-solves}
 use Rattle.bspline.proofs.Weights.{sixth, picture-sum-rows, sum-near, picture-sum-near, sum-same, sum-at-sample, sums-exchanged}
 
@@ -101,14 +101,16 @@ row-value-accurate m h s C p l some same near = record {
 
 -- a picture's is within 1/2 + 7/16 = 15/16
 pub picture-value-accurate : (m : ℕ) → 0 < m → (d : Shape) (pixels C : List ℤ) (px py : Position) → px .j ≤ m → py .j ≤ m →
-    0 < d .width → 0 < d .height → PictureAccurate d pixels C → PictureValueAccurate m d pixels px py (valueInPicture m d C px py)
-unfolding valueInPicture
+    0 < d .width → 0 < d .height → PictureAccurate d pixels C →
+    PictureValueAccurate m d pixels px py (valueInPicture m (packed d) C px py)
+unfolding valueInPicture pictureSum block
 picture-value-accurate m h d pixels C px py lx ly wide high near = record {
   accurate = λ c solves.
-      let N = pictureSum m d (pixel d C) px py in
+      let at-pixel = pixel (packed d) C in
+      let N = pictureSum m d at-pixel px py in
       rw sixteen (rounded (36 * m ^ 6) 7 1 (c .den) (omega (arith, one-le-pow 6 m h)) (pictureSum m d (c .num) px py) N
-      (picture-sum-near m d px py lx ly wide high (pixel d C) (c .num) (1 * c .den) 4096 (7 * c .den)
-      (λ x y u v. spread 7 1 4096 (c .den) (c .num x y) (pixel d C x y) (near .accurate c solves x y u v))));
+      (picture-sum-near m d px py lx ly wide high at-pixel (c .num) (1 * c .den) 4096 (7 * c .den)
+      (λ x y u v. spread 7 1 4096 (c .den) (c .num x y) (at-pixel x y) (near .accurate c solves x y u v))));
 }
   where
     -- the divisor is 16 times the sum of the weights
@@ -182,10 +184,11 @@ sample-returns m h s C same near k l =
 
 -- a picture's value at a pixel is 256 times the pixel
 pub pixel-returns : (m : ℕ) → 0 < m → (d : Shape) (pixels C : List ℤ) → PictureAccurate d pixels C →
-    (x y : ℕ) → x < d .width → y < d .height → valueInPicture m d C (record { k = x; j = 0 }) (record { k = y; j = 0 }) ≡ pos 256 *ℤ pixel d pixels x y
+    (x y : ℕ) → x < d .width → y < d .height →
+    valueInPicture m (packed d) C (record { k = x; j = 0 }) (record { k = y; j = 0 }) ≡ pos 256 *ℤ pixel d pixels x y
 pixel-returns m h d pixels C near x y l u =
     whole-near 15 16 256 (36 * m ^ 6 * c .den) (omega arith) (mul-pos (omega (arith, one-le-pow 6 m h)) (c .above))
-    (pictureSum m d (c .num) (sample x) (sample y)) (pixel d pixels x y) (valueInPicture m d C (sample x) (sample y))
+    (pictureSum m d (c .num) (sample x) (sample y)) (pixel d pixels x y) (valueInPicture m (packed d) C (sample x) (sample y))
     (solution-at-pixel m d (wholeGrid d pixels) c solves x y l u)
     (picture-value-accurate m h d pixels C (sample x) (sample y) (omega arith) (omega arith) (omega arith) (omega arith) near .accurate c solves)
   where

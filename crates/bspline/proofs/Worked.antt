@@ -1,5 +1,6 @@
 -- The marked examples M1 to M13 of "Checked examples" hold, by computing. And the exact solutions among them, M7, M8, M9 and M13, are the
 -- only ones: whatever solves the equations of the listed data equals the listed numbers, by uniqueness. Assumes nothing.
+use mathlib.Core.Bool.{true, false}
 use mathlib.Core.List.{List, [], _∷_, List·Memᴰ, List·Memᴰ·head, List·Memᴰ·tail}
 use mathlib.Core.Path.{_≡_, refl}
 use Prim.Native.Nat.{ℕ, zero, suc, _<_}
@@ -13,6 +14,9 @@ use Rattle.bspline.specs.Exact.{Fractions, tridiagonal, Equation, Solves
 use Rattle.bspline.specs.Mirror.{mirror}
 use Rattle.bspline.specs.Recursions.{R, causal, forward, anticausal, backward, coefficient, delivered, coefficients}
 use Rattle.bspline.specs.Lists.{tabulate}
+use Rattle.bspline.specs.Outcomes.{pictureTransform, pictureValue}
+use Rattle.bspline.specs.Refusals.{refusal, badPixels, badCoefficients}
+use Rattle.bspline.specs.PictureLayout.{sides}
 use Rattle.bspline.specs.Transforms.{rowCoefficients}
 use Rattle.bspline.specs.Values.{weights, rowSum, valueInRow}
 use Rattle.bspline.proofs.Uniqueness.{unique, picture-unique}
@@ -47,7 +51,7 @@ examples-hold =
     also equations-solve 3 _ _ (refl, (refl, (refl, tt)))
     also refl also refl
     also refl
-    also between-solves 2 2 _ _ (wholeGrid (record { width = 2; height = 2 }) (pos 2 ∷ negℤ (pos 1) ∷ pos 0 ∷ pos 0 ∷ []))
+    also between-solves 2 2 _ _ (wholeGrid (sides 2 2) (pos 2 ∷ negℤ (pos 1) ∷ pos 0 ∷ pos 0 ∷ []))
     (equations-solve 2 _ _ (refl, (refl, tt)), (equations-solve 2 _ _ (refl, (refl, tt)), tt))
     (equations-solve 2 _ _ (refl, (refl, tt)), (equations-solve 2 _ _ (refl, (refl, tt)), tt))
     also end
@@ -70,6 +74,34 @@ all-hold e (h also a) (List·Memᴰ·tail m) = all-hold e a m
 -- the listed solutions of M7, M8, M9 and M13 are the only ones
 pub listed-solutions-unique : (e : Example) → List·Memᴰ e examples → OnlySolution e
 listed-solutions-unique e m = holds-only e (all-hold e examples-hold m)
+
+-- the picture of M13 in a slice of five, with a number between its rows, has the same exact solution
+pub between-rows : SolvesPicture 2 2 (wholeGrid (record { width = 2; height = 2; pitch = 3 }) (pos 1 ∷ pos 0 ∷ pos 9 ∷ pos 0 ∷ pos 0 ∷ []))
+    (wholeGrid (sides 2 2) (pos 4 ∷ negℤ (pos 2) ∷ negℤ (pos 2) ∷ pos 1 ∷ []))
+unfolding mirror tridiagonal
+between-rows =
+    between-solves 2 2 _ _ (wholeGrid (sides 2 2) (pos 2 ∷ negℤ (pos 1) ∷ pos 0 ∷ pos 0 ∷ []))
+    (equations-solve 2 _ _ (refl, (refl, tt)), (equations-solve 2 _ _ (refl, (refl, tt)), tt))
+    (equations-solve 2 _ _ (refl, (refl, tt)), (equations-solve 2 _ _ (refl, (refl, tt)), tt))
+
+-- five numbers, or more, hold it and four do not; the pitch is not below the width; one row of it may have a pitch of 4,096 and none of 4,097
+pub held : (badPixels (record { width = 2; height = 2; pitch = 3 }) 5 ≡ false) × (badPixels (record { width = 2; height = 2; pitch = 3 }) 9 ≡ false)
+    × (badPixels (record { width = 2; height = 2; pitch = 3 }) 4 ≡ true) × (badPixels (record { width = 2; height = 2; pitch = 1 }) 9 ≡ true)
+    × (badPixels (record { width = 2; height = 1; pitch = 4096 }) 2 ≡ false) × (badPixels (record { width = 2; height = 1; pitch = 4097 }) 2 ≡ true)
+held = (refl, refl, refl, refl, refl, refl)
+
+-- its coefficients are four, and at the pitch 2
+pub kept : (badCoefficients (sides 2 2) 4 ≡ false) × (badCoefficients (sides 2 2) 3 ≡ true) × (badCoefficients (sides 2 2) 5 ≡ true)
+    × (badCoefficients (record { width = 2; height = 2; pitch = 3 }) 4 ≡ true)
+kept = (refl, refl, refl, refl)
+
+-- a side is refused before the pitch, and the pitch before work and factor
+pub refused-first : (pictureTransform (record { width = 2; height = 0; pitch = 1 }) [] [] [] .answer ≡ refusal 3)
+    × (pictureTransform (record { width = 2; height = 2; pitch = 1 }) [] [] [] .answer ≡ refusal 4)
+    × (pictureValue 0 (record { width = 2; height = 0; pitch = 3 }) [] (record { k = 0; j = 0 }) (record { k = 0; j = 0 }) ≡ refusal 3)
+    × (pictureValue 0 (record { width = 2; height = 2; pitch = 3 }) [] (record { k = 0; j = 0 }) (record { k = 0; j = 0 }) ≡ refusal 4)
+unfolding pictureTransform pictureValue
+refused-first = (refl, refl, refl, refl)
 
 -- a value is not clamped: of the greatest and of the least coefficient it is far outside of 256 times the samples
 pub not-clamped : (valueInRow 1 (pos 2147483647 ∷ []) (record { k = 0; j = 0 }) ≡ pos 134217728)

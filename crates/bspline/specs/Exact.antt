@@ -7,7 +7,7 @@ use lib.Dec.{lit<}
 use lib.IntN.{ℤ, pos, natAbs, _+ℤ_, _-ℤ_, _*ℤ_}
 use lib.ListN.{length}
 use Rattle.bspline.specs.Mirror.{mirror}
-use Rattle.bspline.specs.PictureLayout.{Shape, pixel}
+use Rattle.bspline.specs.PictureLayout.{Shape, packed, pixel}
 use Rattle.bspline.specs.Lists.{at}
 
 -- A row of fractions with one common denominator. Its places are k = 0 to n - 1
@@ -75,8 +75,8 @@ pub record Near (a b m D : ℕ) (x v : ℤ) : Type 0 where
 pub record RowAccurate (s C : List ℤ) : Type 0 where
   pub accurate : (c : Fractions) → Solves (length s) (whole s) c → (k : ℕ) → k < length s → Near 3 2 4096 (c .den) (c .num k) (at C k)
 
--- demand 3 for a picture: at most 7
+-- demand 3 for a picture: at most 7. Its coefficients are closely packed
 pub record PictureAccurate (d : Shape) (p C : List ℤ) : Type 0 where
   pub accurate :
       (c : Grid) → SolvesPicture (d .width) (d .height) (wholeGrid d p) c →
-      (x y : ℕ) → x < d .width → y < d .height → Near 7 1 4096 (c .den) (c .num x y) (pixel d C x y)
+      (x y : ℕ) → x < d .width → y < d .height → Near 7 1 4096 (c .den) (c .num x y) (pixel (packed d) C x y)

@@ -10,7 +10,7 @@ use lib.ListN.{length}
 use Rattle.bspline.specs.Exact.{Fractions, Same, Solves, Grid, SameGrid, SolvesPicture, over, whole, wholeGrid}
 use Rattle.bspline.specs.Mirror.{mirror}
 use Rattle.bspline.specs.Recursions.{R}
-use Rattle.bspline.specs.PictureLayout.{Shape}
+use Rattle.bspline.specs.PictureLayout.{Shape, sides}
 use Rattle.bspline.specs.Transforms.{rowCoefficients}
 use Rattle.bspline.specs.Values.{weights}
 
@@ -54,7 +54,7 @@ abbrev minus : ℕ → ℤ
 minus n = negℤ (pos n)
 
 abbrev two-by-two : Shape
-two-by-two = record { width = 2; height = 2 }
+two-by-two = sides 2 2
 
 abbrev pub examples : List Example
 examples =

@@ -11,6 +11,10 @@ longestRow = 4096
 abbrev pub longestSide : ℕ
 longestSide = 512
 
+-- the greatest pitch of pixels
+abbrev pub greatestPitch : ℕ
+greatestPitch = 4096
+
 -- the greatest factor
 abbrev pub greatestFactor : ℕ
 greatestFactor = 16

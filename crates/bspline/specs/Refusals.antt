@@ -5,8 +5,8 @@ use Prim.Native.Nat.{ℕ, _-_}
 use lib.Dec.{leb, ltb, eqb}
 use lib.IntN.{ℤ}
 use lib.ListN.{length}
-use Rattle.bspline.specs.PictureLayout.{Shape, area}
-use Rattle.bspline.specs.Limits.{longestSide, greatestFactor, workWords}
+use Rattle.bspline.specs.PictureLayout.{Shape, area, extent}
+use Rattle.bspline.specs.Limits.{longestSide, greatestPitch, greatestFactor, workWords}
 use Rattle.bspline.specs.Values.{Position}
 
 -- An answer: the count of numbers written, or the value, or the refusal by its number
@@ -39,13 +39,23 @@ badSides d = outside longestSide (d .width) || outside longestSide (d .height)
 abbrev pub refusal-3 : Shape → Test
 refusal-3 d = 3 when badSides d
 
--- pixels whose count is not w × h
-abbrev pub refusal-4-pixels : Shape → List ℤ → Test
-refusal-4-pixels d p = 4 when not (eqb (length p) (area d))
+-- pixels with a pitch below the width or above 4,096
+abbrev pub badPitch : Shape → Bool
+badPitch d = ltb (d .pitch) (d .width) || ltb greatestPitch (d .pitch)
 
--- picture coefficients whose count is not w × h
+-- or in a list of n that ends before the picture does
+abbrev pub badPixels : Shape → ℕ → Bool
+badPixels d n = badPitch d || ltb n (extent d)
+
+abbrev pub refusal-4-pixels : Shape → List ℤ → Test
+refusal-4-pixels d p = 4 when badPixels d (length p)
+
+-- n picture coefficients with a pitch or a count that is not that of the closely packed picture
+abbrev pub badCoefficients : Shape → ℕ → Bool
+badCoefficients d n = not (eqb (d .pitch) (d .width)) || not (eqb n (area d))
+
 abbrev pub refusal-4-coefficients : Shape → List ℤ → Test
-refusal-4-coefficients d c = 4 when not (eqb (length c) (area d))
+refusal-4-coefficients d c = 4 when badCoefficients d (length c)
 
 -- a work slice shorter than n + 48; for a picture n is the longer side
 abbrev pub refusal-5 : ℕ → List ℤ → Test

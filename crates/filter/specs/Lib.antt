@@ -1,3 +1,2 @@
 -- What the contracts of the filter cite beside the definitions of `bspline`.
 pub mod Lines
-pub mod Raised

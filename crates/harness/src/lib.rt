@@ -4,7 +4,6 @@ ghost use mathlib.Core.Path.{_≡_};
 ghost use Prim.Native.Nat.{_+_, _-_, _*_, _^_, min};
 ghost use lib.IntN.{pos, negℤ};
 ghost use Rattle.bspline.specs.Outcomes.{rowTransform, pictureTransform, rowZoom, rowValue, pictureValue};
-ghost use Rattle.bspline.specs.PictureLayout.{sides};
 ghost use Rattle.answers.specs.Answers.{number, valued, written};
 ghost use Rattle.wavefile.specs.Outcomes.{wavRead};
 ghost use Rattle.wav.specs.Answers.{answered};
@@ -92,14 +91,19 @@ pub extern "C" fn harness_picture_transform(
     pixels: &[i16],
     width: usize,
     height: usize,
+    pitch: usize,
     coefficients: &mut [i32],
     work: &mut [i64],
 ) -> i64
     ensures { λ r. ⌜
         record { answer = r; coefficients = now (coefficients .exit); work = now (work .exit) }
-        ≡ codedTransform (pictureTransform (sides width height) (now (pixels .entry)) (now (coefficients .entry)) (now (work .entry))) ⌝ }
+        ≡ codedTransform (pictureTransform (record { width = width; height = height; pitch = pitch }) (now (pixels .entry)) (now (coefficients .entry)) (now (work .entry))) ⌝ }
 {
-    let shape = Shape { width, height };
+    let shape = Shape {
+        width,
+        height,
+        pitch,
+    };
     written_code(spline::picture::transform(pixels, shape, coefficients, work))
 }
 
@@ -124,6 +128,7 @@ pub extern "C" fn harness_picture_value(
     coefficients: &[i32],
     width: usize,
     height: usize,
+    pitch: usize,
     kx: usize,
     jx: usize,
     ky: usize,
@@ -133,12 +138,16 @@ pub extern "C" fn harness_picture_value(
     ensures { λ r. ⌜
         r
         ≡ valueCode
-        (pictureValue m (sides width height) (now (coefficients .entry)) (record { k = kx; j = jx }) (record { k = ky; j = jy })) ⌝ }
+        (pictureValue m (record { width = width; height = height; pitch = pitch }) (now (coefficients .entry)) (record { k = kx; j = jx }) (record { k = ky; j = jy })) ⌝ }
 {
-    let sides = Shape { width, height };
+    let shape = Shape {
+        width,
+        height,
+        pitch,
+    };
     let x = Position { k: kx, j: jx };
     let y = Position { k: ky, j: jy };
-    valued_code(spline::picture::value(coefficients, sides, x, y, m))
+    valued_code(spline::picture::value(coefficients, shape, x, y, m))
 }
 
 #[no_mangle]

@@ -12,8 +12,8 @@ use Rattle.bspline.specs.Recursions.{coefficients}
 use Rattle.bspline.specs.Transforms.{rowCoefficients}
 use Rattle.bspline.proofs.Lines.{coefficients-same}
 use Rattle.filter.specs.Lines.{Line, loadedLine}
-use Rattle.filter.specs.Raised.{Raised}
-use Rattle.filter.proofs.Raising.{raised-small, raised-loaded}
+use Rattle.buffers.specs.Raised.{Raised}
+use Rattle.buffers.proofs.Raising.{raised-at, raised-small, raised-loaded}
 
 own-place : (k : ℕ) → 0 + 1 * k ≡ k
 own-place k = omega arith
@@ -24,11 +24,11 @@ module _ {s c : List ℤ} (r : Raised s c) (some : 0 < length s) (short : length
     some = some;
     short = short;
     inside = λ k h. omega arith;
-    small = λ k h. rw (own-place k) (raised-small r k h);
+    small = λ k h. rw (own-place k, raised-at r k) (raised-small (at s k) (r .small .within k h));
   }
 
   pub row-coefficients : coefficients (length s) (loadedLine 0 1 c) ≡ rowCoefficients s
   unfolding rowCoefficients
   row-coefficients =
       coefficients-same (length s) (loadedLine 0 1 c) (λ k. pos 65536 *ℤ at s k) some
-      (λ k h. ap (λ i. pos 16 *ℤ at c i) (own-place k) ∙ raised-loaded r k)
+      (λ k h. ap (λ (x : ℤ). pos 16 *ℤ x) (ap (at c) (own-place k) ∙ raised-at r k) ∙ raised-loaded (at s k))

@@ -1,18 +1,18 @@
-// Picture transform. A picture is kept row after row.
+// Picture transform. Pixels may lie in a larger slice; coefficients are closely packed.
 ghost use mathlib.Core.Path.{_≡_};
 ghost use Prim.Native.Nat.{max};
 ghost use Rattle.bspline.specs.Exact.{PictureAccurate};
 ghost use Rattle.bspline.specs.Outcomes.{pictureTransform};
-ghost use Rattle.bspline.specs.PictureLayout.{sides};
 ghost use Rattle.answers.specs.Answers.{described, written, Promised};
 ghost use Rattle.transforms.specs.Pictures.{PictureBuffers, PictureFiltered};
 use answers::Refusal;
 use answers::Shape;
 use answers::Written;
+use answers::checks::bad_pixels;
 use answers::checks::bad_sides;
 use answers::limits::MARGINS;
-use filter::buffers::clear;
-use filter::buffers::raise;
+use buffers::clear;
+use buffers::raise_picture;
 use filter::lines::filter_lines;
 
 // The longer side: it decides how many words of work a picture takes.
@@ -22,22 +22,25 @@ fn longer(width: usize, height: usize) -> usize
     if width < height { height } else { width }
 }
 
-// The coefficients of a picture whose sides are not refused, into a buffer of as many numbers: rows first and then columns. The work slice has just
-// the words that the longer side takes, and is cleared.
-fn filter_picture(pixels: &[i16], width: usize, height: usize, c: &mut [i32], work: &mut [i64])
-    requires { ⌜ PictureBuffers (sides width height) (now pixels) (now c) (now work) ⌝ }
-    ensures { λ _. ⌜ PictureFiltered (sides width height) (now (pixels .entry)) (now (c .exit)) (now (work .exit)) ⌝ }
+// The coefficients of a picture that is not refused, into a buffer of as many numbers: rows first and then columns. The work slice has just the words
+// that the longer side takes, and is cleared.
+fn filter_picture(pixels: &[i16], shape: Shape, c: &mut [i32], work: &mut [i64])
+    requires { ⌜ PictureBuffers (described shape) (now pixels) (now c) (now work) ⌝ }
+    ensures { λ _. ⌜ PictureFiltered (described shape) (now (pixels .entry)) (now (c .exit)) (now (work .exit)) ⌝ }
 {
+    let width = shape.width;
+    let height = shape.height;
     let row_words = width + MARGINS;
     let column_words = height + MARGINS;
-    raise(pixels, c);
+    raise_picture(pixels, shape, c);
     filter_lines(c, height, width, 1, width, &mut work[..row_words]);
     filter_lines(c, width, 1, width, height, &mut work[..column_words]);
     clear(work);
 }
 
-// Picture transform: the coefficients of w × h pixels, from the buffer's start. The work slice has at least MARGINS words more than the longer side,
-// and as many are 0 afterwards. Each coefficient is at most 7 from 4096 times the exact solution of the picture.
+// Picture transform: the coefficients of w × h pixels, closely packed from the buffer's start. The pixels lie in a slice from its start, where each
+// row begins a pitch after the one before; no other number of the slice is used. The work slice has at least MARGINS words more than the longer
+// side, and as many are 0 afterwards. Each coefficient is at most 7 from 4096 times the exact solution of the picture.
 pub fn transform(
     pixels: &[i16],
     shape: Shape,
@@ -51,13 +54,13 @@ pub fn transform(
 {
     let width = shape.width;
     let height = shape.height;
-    if bad_sides(width, height) {
+    if bad_sides(shape) {
         return Written::Refused(Refusal::BadSide);
     }
-    let area = width * height;
-    if pixels.len() != area {
-        return Written::Refused(Refusal::WrongCount);
+    if bad_pixels(shape, pixels.len()) {
+        return Written::Refused(Refusal::WrongLayout);
     }
+    let area = width * height;
     let words = longer(width, height) + MARGINS;
     if work.len() < words {
         return Written::Refused(Refusal::ShortWork);
@@ -65,12 +68,6 @@ pub fn transform(
     if coefficients.len() < area {
         return Written::Refused(Refusal::ShortCoefficients);
     }
-    filter_picture(
-        pixels,
-        width,
-        height,
-        &mut coefficients[..area],
-        &mut work[..words],
-    );
+    filter_picture(pixels, shape, &mut coefficients[..area], &mut work[..words]);
     Written::Count(area)
 }

@@ -8,8 +8,8 @@ use answers::Refusal;
 use answers::Written;
 use answers::limits::LONGEST_ROW;
 use answers::limits::MARGINS;
-use filter::buffers::clear;
-use filter::buffers::raise;
+use buffers::clear;
+use buffers::raise;
 use filter::lines::filter_line;
 
 // The coefficients of a row, into a buffer of as many numbers, with a work slice of just the words that it takes, which is cleared.

@@ -6,14 +6,13 @@ use Prim.Native.Nat.{ℕ, _+_, _-_, _*_, _≤_, _<_}
 use native.Mathlib.Nat.{suc-mul, mul-le-mul-right}
 use native.Mathlib.Omega.{arith}
 use borrow.Rule.Slice.PartMut.{midOf, putMid, mid-len}
-use lib.IntN.{ℤ, pos}
-use lib.ListN.{length, drop}
-use lib.Seq.{ext-getD, getD-take, getD-drop}
+use lib.IntN.{ℤ}
+use lib.ListN.{length}
 use Rattle.bspline.specs.Limits.{longestRow}
 use Rattle.bspline.specs.Lists.{tabulate}
 use Rattle.bspline.specs.Values.{valueInRow, zoomValues}
 use Rattle.bspline.proofs.Lists.{tabulate-length, tabulate-from-zero}
-use Rattle.bspline.proofs.FilledLists.{Filled, filled-part}
+use Rattle.bspline.proofs.FilledLists.{Filled, part-is, filled-part}
 use Rattle.bspline.proofs.Zoom.{zoom-length, zoom-at}
 use Rattle.answers.specs.Limits.{Factor}
 use Rattle.zoom.specs.Listing.{Between}
@@ -26,13 +25,8 @@ between m c k n = tabulate (λ j. valueInRow m c (record { k = k; j = j })) 0 n
 between-part : (m : ℕ) (c : List ℤ) (k e : ℕ) → e ≤ k * m + m → e ≤ length (zoomValues m c) →
     between m c k (e - k * m) ≡ midOf (k * m) (e - k * m) (zoomValues m c)
 between-part m c k e h g =
-    let size : length (between m c k (e - k * m)) ≡ e - k * m = tabulate-length _ 0 (e - k * m) in
-    ext-getD (pos 0) _ _ (size ∙ sym (mid-len (k * m) e (zoomValues m c) g))
-    (λ j b.
-    let s : j < e - k * m = omega (arith, size) in
-    tabulate-from-zero _ (e - k * m) j s
-    ∙ sym (zoom-at m c k j (omega arith) (omega (arith, zoom-length m c)))
-    ∙ sym (getD-take (e - k * m) (drop (k * m) (zoomValues m c)) j (pos 0) s ∙ getD-drop (k * m) (zoomValues m c) j (pos 0)))
+    part-is (zoomValues m c) (between m c k (e - k * m)) (k * m) e g (tabulate-length _ 0 (e - k * m))
+    (λ j s. tabulate-from-zero _ (e - k * m) j s ∙ sym (zoom-at m c k j (omega arith) (omega (arith, zoom-length m c))))
 
 -- where they are put from place k × m on, the list is filled up to where they end
 pub part-more : (m : ℕ) (c l : List ℤ) (k e : ℕ) (v : List ℤ) → Filled (zoomValues m c) l (k * m) → k * m ≤ e → e ≤ k * m + m → e ≤ length l →

@@ -14,7 +14,7 @@ use Rattle.bspline.proofs.Bounds.{all-weaken}
 use Rattle.bspline.specs.PictureLayout.{sides}
 use Rattle.sums.specs.Sums.{listed}
 use Rattle.sums.specs.Weights.{weighed}
-use Rattle.bspline.proofs.PictureLayout.{row-inside}
+use Rattle.bspline.proofs.PictureLayout.{row-inside, packed-extent}
 use Rattle.bspline.proofs.Weights.{dot-size}
 use Rattle.sums.proofs.pictures.row_sum.Statement.{statement}
 use Rattle.sums.proofs.pictures.row_sum.Tie as tie
@@ -26,7 +26,8 @@ mirrored-requires c κs = search needs
 inside : (c : tie.After-mirrored) → c .mirrored .result * c .before .args .width + c .before .args .width ≤ length (c .before .args .c .now)
 inside c =
     let d = sides (c .before .args .width) (c .before .args .height) in
-    omega (arith, row-inside d (c .mirrored .result) (c .mirrored .ensures .1), c .before .pre .0 .count)
+    let p = c .before .pre .0 in
+    omega (arith, row-inside d (c .mirrored .result) (c .mirrored .ensures .1), packed-extent d (p .above), p .count)
 
 mul-support : tie.Need-mul-support
 mul-support c = omega (arith, inside c)

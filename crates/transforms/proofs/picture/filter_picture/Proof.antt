@@ -10,9 +10,10 @@ use lib.IntN.{ℤ, pos}
 use lib.ListN.{length, take, drop, replicate, length-append, take-append-drop}
 use lib.Seq.{length-take-le}
 use Rattle.bspline.specs.Limits.{workWords}
-use Rattle.bspline.specs.PictureLayout.{Shape, sides}
+use Rattle.bspline.specs.PictureLayout.{Shape}
+use Rattle.answers.specs.Answers.{described}
 use Rattle.filter.specs.Lines.{Lines}
-use Rattle.transforms.proofs.PicturePasses.{pixels-small, rows-ready, columns-ready, picture-filtered}
+use Rattle.transforms.proofs.PicturePasses.{rows-ready, columns-ready, picture-filtered}
 use Rattle.transforms.proofs.picture.filter_picture.Statement.{statement}
 use Rattle.transforms.proofs.picture.filter_picture.Tie as tie
 
@@ -30,8 +31,8 @@ add-row-words c = search needs
 add-column-words : tie.Need-add-column-words
 add-column-words c = search needs
 
-raise-requires : tie.Need-raise-requires
-raise-requires c κs = search needs
+raise-picture-requires : tie.Need-raise-picture-requires
+raise-picture-requires c κs = search needs
 
 slice-relend-prefix-filter-lines : tie.Need-slice-relend-prefix-filter-lines
 slice-relend-prefix-filter-lines c = search needs
@@ -42,8 +43,8 @@ slice-aggregate-filter-lines c = sym (length-take-le _ _ (search needs))
 filter-lines-requires : tie.Need-filter-lines-requires
 filter-lines-requires c κs =
     let s = c .before .before .before .before .before in
-    let r = c .before .before .before .raise in (
-      rows-ready (sides (s .args .width) (s .args .height)) (s .args .pixels .now) (r .last .1 .0) (s .pre .good) (s .pre .pixels) (r .ensures),
+    let r = c .before .before .before .raise-picture in (
+      rows-ready (described (s .args .shape)) (s .args .pixels .now) (r .last .1 .1 .0) (s .pre .good) (r .ensures),
       length-take-le _ _ (search needs),
     )
 
@@ -53,12 +54,12 @@ module _ (c : tie.After-filter-lines) where
   start = c .before .before .before .before .before .before
 
   abbrev d : Shape
-  d = sides (start .args .width) (start .args .height)
+  d = described (start .args .shape)
 
   columns : Lines (d .width) 1 (d .width) (d .height) (c .filter-lines .last .0)
   columns =
-      let r = c .before .before .before .before .raise in
-      columns-ready d (start .args .pixels .now) (r .last .1 .0) (start .pre .good) (start .pre .pixels) (r .ensures)
+      let r = c .before .before .before .before .raise-picture in
+      columns-ready d (start .args .pixels .now) (r .last .1 .1 .0) (start .pre .good) (r .ensures)
       (c .filter-lines .last .0) (c .filter-lines .ensures)
 
   -- work, which begins with numbers of the last row, is as long as it was
@@ -96,12 +97,12 @@ returns : tie.Need-returns
 returns c =
     let e = c .before .before .before .before .before in
     let f = e .before .before .before .before .before in
-    let r = f .before .before .before .before .raise in
+    let r = f .before .before .before .before .raise-picture in
     record {
       coefficients =
-          picture-filtered (d f) (start f .args .pixels .now) (r .last .1 .0) (start f .pre .good) (start f .pre .pixels) (r .ensures)
+          picture-filtered (d f) (start f .args .pixels .now) (r .last .1 .1 .0) (start f .pre .good) (r .ensures)
           (f .filter-lines .last .0) (f .filter-lines .ensures) (e .filter-lines2 .last .0) (e .filter-lines2 .ensures);
-      small = pixels-small (d f) (start f .args .pixels .now) (r .last .1 .0) (start f .pre .good) (start f .pre .pixels) (r .ensures);
+      small = r .ensures .small;
       cleared =
           c .before .clear .ensures
           ∙ ap (λ n. replicate n (pos 0))
@@ -114,7 +115,7 @@ filter-picture-spec =
     (tie.spec
     add-row-words
     add-column-words
-    raise-requires
+    raise-picture-requires
     slice-relend-prefix-filter-lines
     slice-aggregate-filter-lines
     filter-lines-requires

@@ -1,22 +1,23 @@
 -- `transforms::picture::transform` meets its contract: each refusal is the first test that holds, and where none does the parts of the two buffers
 -- that the filter is lent become the picture's coefficients and zeros. The sides' product is made of sides up to 512. Assumes nothing.
-use mathlib.Core.Bool.{true, false}
+use mathlib.Core.Bool.{false}
 use mathlib.Core.List.{List}
 use mathlib.Core.Path.{_≡_, sym, ap, _∙_}
-use Prim.Native.Nat.{ℕ, max}
+use Prim.Native.Nat.{ℕ, max, _≤_}
 use native.Mathlib.Omega.{arith}
 use borrow.Author.Needs.{needs}
-use borrow.Author.Tests.{lt-ltb, le-ltb, eq-eqb, ne-eqb}
-use lib.Dec.{eqb, ltb}
+use borrow.Author.Tests.{lt-ltb, le-ltb}
+use lib.Dec.{ltb}
 use lib.IntN.{ℤ}
 use lib.ListN.{length, take, drop, length-replicate}
 use lib.Seq.{length-take-le}
 use Rattle.bspline.specs.Limits.{workWords}
 use Rattle.bspline.specs.Outcomes.{pictureTransform}
-use Rattle.bspline.specs.PictureLayout.{Shape, area}
-use Rattle.bspline.specs.Refusals.{badSides}
+use Rattle.bspline.specs.PictureLayout.{Shape, area, extent}
+use Rattle.bspline.specs.Refusals.{badSides, badPixels}
 use Rattle.bspline.specs.Transforms.{pictureCoefficients}
 use Rattle.bspline.proofs.Accuracy.{picture-accurate}
+use Rattle.bspline.proofs.Refusals.{pixels-held}
 use Rattle.bspline.proofs.Transforms.{picture-length, picture-begins}
 use Rattle.answers.specs.Answers.{described}
 use Rattle.answers.specs.Limits.{GoodSides}
@@ -48,26 +49,37 @@ module _ (c : tie.Else1) where
   good : GoodSides d
   good = good-sides d sides
 
-mul-area : tie.Need-mul-area
-mul-area c = omega (arith, area-small (d c) (good c))
+bad-pixels-requires : tie.Need-bad-pixels-requires
+bad-pixels-requires c κs = good c
 
 returns-2 : tie.Need-returns-2
 unfolding pictureTransform
-returns-2 c = (simp (sides (c .before), ne-eqb _ _ (c .if2 .taken)), tt)
+returns-2 c = (simp (sides (c .before .before), sym (c .before .bad-pixels .ensures) ∙ c .if2 .taken), tt)
 
 longer-requires : tie.Need-longer-requires
 longer-requires c κs = search needs
 
--- nor is the count of the pixels
+-- nor is the slice of pixels
+module _ (c : tie.Else2) where
+  abbrev described-by : tie.Else1
+  described-by = c .before .before
+
+  fit : badPixels (d described-by) (length (p described-by)) ≡ false
+  fit = sym (c .before .bad-pixels .ensures) ∙ c .if2 .left
+
+  held : extent (d described-by) ≤ length (p described-by)
+  held = pixels-held (d described-by) (length (p described-by)) fit
+
+mul-area : tie.Need-mul-area
+mul-area c = let s = described-by c in omega (arith, area-small (d s) (good s))
+
+-- and the work is known
 module _ (c : tie.After-longer) where
   abbrev sided : tie.Else1
-  sided = c .before .before
+  sided = described-by (c .before)
 
   abbrev words : ℕ
   words = workWords (max (d sided .width) (d sided .height))
-
-  counted : eqb (length (p sided)) (area (d sided)) ≡ true
-  counted = eq-eqb _ _ (c .before .if2 .left)
 
   words-are : workWords (c .longer .result) ≡ words
   words-are = ap workWords (c .longer .ensures)
@@ -79,13 +91,13 @@ returns-3 : tie.Need-returns-3
 unfolding pictureTransform
 returns-3 c =
     let l = c .before in
-    (simp (sides (sided l), counted l, sym (words-are l), lt-ltb _ _ (c .if3 .taken)), tt)
+    (simp (sides (sided l), fit (l .before), sym (words-are l), lt-ltb _ _ (c .if3 .taken)), tt)
 
 returns-4 : tie.Need-returns-4
 unfolding pictureTransform
 returns-4 c =
     let l = c .before .before in
-    (simp (sides (sided l), counted l, sym (words-are l), le-ltb _ _ (c .before .if3 .left), lt-ltb _ _ (c .if4 .taken)), tt)
+    (simp (sides (sided l), fit (l .before), sym (words-are l), le-ltb _ _ (c .before .if3 .left), lt-ltb _ _ (c .if4 .taken)), tt)
 
 -- nor are the two buffers
 module _ (c : tie.Else4) where
@@ -125,7 +137,7 @@ filter-picture-requires c κs =
     let l = numbered e in
     record {
       good = good (sided l);
-      pixels = l .before .if2 .left;
+      pixels = held (l .before);
       coefficients = lent-coefficients e;
       words = lent-work e ∙ words-are l;
     }
@@ -147,7 +159,7 @@ returns-5 c =
     let filtered = f .filter-picture .ensures in (
       simp (
         sides s,
-        counted l,
+        fit (l .before),
         roomy e,
         fitting e,
         words-are l,
@@ -167,8 +179,9 @@ transform-spec =
     (tie.spec
     bad-sides-requires
     returns
-    mul-area
+    bad-pixels-requires
     returns-2
+    mul-area
     longer-requires
     add-words
     returns-3

@@ -1,23 +1,22 @@
 -- `values::picture::value` meets its contract: each refusal is the first test that holds, and where none does the position is on the picture.
 -- Assumes nothing.
-use mathlib.Core.Bool.{true, false}
+use mathlib.Core.Bool.{false}
 use mathlib.Core.Path.{_≡_, sym, ap, _∙_}
-use native.Mathlib.Omega.{arith}
 use borrow.Author.Needs.{needs, sfits-of}
-use borrow.Author.Tests.{eq-eqb, ne-eqb}
-use lib.Dec.{eqb}
 use lib.ListN.{length}
 use mir.Facts.{toZ-ofZ}
 use mir.Syntax.{w32}
 use mir.Val.{SFits}
 use Rattle.bspline.specs.Limits.{greatestFactor}
 use Rattle.bspline.specs.Outcomes.{pictureValue}
-use Rattle.bspline.specs.PictureLayout.{Shape, area}
-use Rattle.bspline.specs.Refusals.{value, outside, badSides, offData}
+use Rattle.bspline.specs.PictureLayout.{Shape}
+use Rattle.bspline.specs.Refusals.{value, outside, badSides, badCoefficients, offData}
+use Rattle.bspline.specs.Values.{valueInPicture}
+use Rattle.bspline.proofs.Refusals.{coefficients-packed}
 use Rattle.answers.specs.Answers.{described, placed}
 use Rattle.answers.specs.Limits.{GoodSides}
 use Rattle.answers.proofs.OnData.{on-data}
-use Rattle.answers.proofs.WithinLimits.{factor, good-sides, area-small}
+use Rattle.answers.proofs.WithinLimits.{factor, good-sides}
 use Rattle.values.proofs.picture.value.Statement.{statement}
 use Rattle.values.proofs.picture.value.Tie as tie
 
@@ -42,27 +41,27 @@ module _ (c : tie.Else1) where
   good : GoodSides d
   good = good-sides d sides
 
-mul-if2 : tie.Need-mul-if2
-mul-if2 c = omega (arith, area-small (d c) (good c))
+bad-coefficients-requires : tie.Need-bad-coefficients-requires
+bad-coefficients-requires c κs = good c
 
 returns-2 : tie.Need-returns-2
 unfolding pictureValue
-returns-2 c = simp (sides (c .before), ne-eqb _ _ (c .if2 .taken))
+returns-2 c = simp (sides (c .before .before), sym (c .before .bad-coefficients .ensures) ∙ c .if2 .taken)
 
 bad-factor-requires : tie.Need-bad-factor-requires
 bad-factor-requires c κs = search needs
 
--- nor is the count
+-- nor are the coefficients
 module _ (c : tie.Else2) where
   abbrev sided : tie.Else1
-  sided = c .before
+  sided = c .before .before
 
-  counted : eqb (length (start sided .args .coefficients .now)) (area (d sided)) ≡ true
-  counted = eq-eqb _ _ (c .if2 .left)
+  fit : badCoefficients (d sided) (length (start sided .args .coefficients .now)) ≡ false
+  fit = sym (c .before .bad-coefficients .ensures) ∙ c .if2 .left
 
 returns-3 : tie.Need-returns-3
 unfolding pictureValue
-returns-3 c = let n = c .before .before in simp (sides (sided n), counted n, sym (c .before .bad-factor .ensures) ∙ c .if3 .taken)
+returns-3 c = let n = c .before .before in simp (sides (sided n), fit n, sym (c .before .bad-factor .ensures) ∙ c .if3 .taken)
 
 -- nor is the factor
 module _ (c : tie.Else3) where
@@ -82,7 +81,7 @@ returns-4 : tie.Need-returns-4
 unfolding pictureValue
 returns-4 c =
     let f = c .before .before in
-    simp (sides (whole f), counted (numbered f), good-factor f, sym (c .before .off-data .ensures) ∙ c .if4 .taken)
+    simp (sides (whole f), fit (numbered f), good-factor f, sym (c .before .off-data .ensures) ∙ c .if4 .taken)
 
 off-data-requires-2 : tie.Need-off-data-requires-2
 off-data-requires-2 c κs = good (whole (c .before .before)) .high
@@ -100,7 +99,7 @@ unfolding pictureValue
 returns-5 c =
     let x = c .before .before in
     let f = factored x in
-    simp (sides (whole f), counted (numbered f), good-factor f, on-width x, sym (c .before .off-data2 .ensures) ∙ c .if5 .taken)
+    simp (sides (whole f), fit (numbered f), good-factor f, on-width x, sym (c .before .off-data2 .ensures) ∙ c .if5 .taken)
 
 -- nor is that along the height
 module _ (c : tie.Else5) where
@@ -121,7 +120,7 @@ value-at-requires c κs =
         along = on-data _ _ _ (g .wide) (on-width (wide c));
         down = on-data _ _ _ (g .high) (on-height c);
       },
-      numbered f .if2 .left,
+      coefficients-packed (d (whole f)) _ (fit (numbered f)) .1,
     )
 
 returns-6 : tie.Need-returns-6
@@ -130,7 +129,10 @@ returns-6 c =
     let e = c .before in
     let f = factored (wide e) in
     let r : SFits w32 (c .value-at .result) = sfits-of (c .value-at .ok) in
-    simp (sides (whole f), counted (numbered f), good-factor f, on-width (wide e), on-height e) (ap value (toZ-ofZ r ∙ c .value-at .ensures))
+    let a = start (whole f) .args in
+    simp (sides (whole f), fit (numbered f), good-factor f, on-width (wide e), on-height e)
+    (ap value (toZ-ofZ r ∙ c .value-at .ensures
+    ∙ ap (λ s. valueInPicture (a .m) s (a .coefficients .now) (placed (a .x)) (placed (a .y))) (sym (coefficients-packed (d (whole f)) _ (fit (numbered f)) .0))))
 
 pub value-spec : {M : Type 1} → statement M
 value-spec =
@@ -138,7 +140,7 @@ value-spec =
     (tie.spec
     bad-sides-requires
     returns
-    mul-if2
+    bad-coefficients-requires
     returns-2
     bad-factor-requires
     returns-3

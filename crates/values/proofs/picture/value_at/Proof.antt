@@ -10,7 +10,7 @@ use mir.Syntax.{w32, w64}
 use mir.Val.{SFits}
 use Rattle.integers.specs.Rounding.{round}
 use Rattle.bspline.specs.Bounds.{sizes}
-use Rattle.bspline.specs.PictureLayout.{Shape, pixel}
+use Rattle.bspline.specs.PictureLayout.{Shape, packed, pixel}
 use Rattle.bspline.specs.Values.{Position, pictureSum, valueInPicture}
 use Rattle.bspline.proofs.Bounds.{all-weaken}
 use Rattle.bspline.proofs.Weights.{weights-light}
@@ -26,7 +26,7 @@ module _ (s : tie.Start) where
   m = s .args .m
 
   abbrev d : Shape
-  d = described (s .args .shape)
+  d = packed (described (s .args .shape))
 
   abbrev px : Position
   px = placed (s .args .x)

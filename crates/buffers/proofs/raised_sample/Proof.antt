@@ -1,12 +1,12 @@
--- `filter::buffers::raised_sample` meets its contract: 4096 times a 16-bit number fits 32 bits. Assumes nothing.
+-- `buffers::raised_sample` meets its contract: 4096 times a 16-bit number fits 32 bits. Assumes nothing.
 use lib.Dec.{lit<}
 use lib.IntN.{pos, _*ℤ_}
 use mir.Facts.{toZ-ofZ, sfits-widen}
 use mir.Syntax.{w32}
 use mir.Val.{SFits}
 use Rattle.integers.proofs.Machine.{product-widens}
-use Rattle.filter.proofs.buffers.raised_sample.Statement.{statement}
-use Rattle.filter.proofs.buffers.raised_sample.Tie as tie
+use Rattle.buffers.proofs.raised_sample.Statement.{statement}
+use Rattle.buffers.proofs.raised_sample.Tie as tie
 
 module _ (c : tie.Start) where
   wide : SFits w32 (c .args .s)

@@ -1,12 +1,12 @@
--- `filter::buffers::clear` meets its contract. The invariant, `Filled`: the first i words are 0. The measure is what is left. Assumes nothing.
+-- `buffers::clear` meets its contract. The invariant, `Filled`: the first i words are 0. The measure is what is left. Assumes nothing.
 use mathlib.Core.Path.{_≡_, sym}
 use Prim.Native.Nat.{_-_}
 use native.Mathlib.Omega.{arith}
 use lib.IntN.{pos}
 use lib.ListN.{length, replicate, length-replicate, getD-replicate}
 use Rattle.bspline.proofs.FilledLists.{Filled, filled-none, filled-more, filled-all}
-use Rattle.filter.proofs.buffers.clear.Statement.{statement}
-use Rattle.filter.proofs.buffers.clear.Tie as tie
+use Rattle.buffers.proofs.clear.Statement.{statement}
+use Rattle.buffers.proofs.clear.Tie as tie
 
 abbrev Inv-loop : tie.InvT-loop
 Inv-loop work₀ word₀ work word = Filled (replicate (length work₀) (pos 0)) work word

@@ -1,4 +1,4 @@
--- `filter::buffers::raise` meets its contract. The invariant: the first i numbers are the raised samples (`Filled`), and the samples read so far are
+-- `buffers::raise` meets its contract. The invariant: the first i numbers are the raised samples (`Filled`), and the samples read so far are
 -- 16-bit numbers. The measure is what is left. Assumes nothing.
 use mathlib.Core.List.{map}
 use mathlib.Core.Path.{_≡_, sym, _∙_}
@@ -13,10 +13,10 @@ use mir.Syntax.{w16, w32}
 use mir.Val.{SFits}
 use Rattle.bspline.specs.Lists.{at}
 use Rattle.integers.proofs.Absolute.{abs-fits}
-use Rattle.filter.specs.Raised.{raised}
+use Rattle.buffers.specs.Raised.{raised}
 use Rattle.bspline.proofs.FilledLists.{Filled, filled-none, filled-more, filled-all}
-use Rattle.filter.proofs.buffers.raise.Statement.{statement}
-use Rattle.filter.proofs.buffers.raise.Tie as tie
+use Rattle.buffers.proofs.raise.Statement.{statement}
+use Rattle.buffers.proofs.raise.Tie as tie
 
 abbrev Inv-loop : tie.InvT-loop
 Inv-loop samples c₀ i₀ c i = Filled (map raised samples) c i × ((k : ℕ) → k < i → natAbs (at samples k) ≤ 2 ^ 15)

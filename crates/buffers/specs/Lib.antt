@@ -1,0 +1,2 @@
+-- What the contracts of whole buffers cite beside the definitions of `bspline`.
+pub mod Raised
