@@ -219,6 +219,13 @@ picture-taken d p buffer work C W n e a =
     record { count = t .1; sides = t .0 .0; room = t .3; begins = t .2; accurate = a }
 
 module _ (d : Shape) (p C : List ℤ) (n : ℕ) (taken : PictureTaken d p C n) where
+  -- neither side is 0
+  wide : 0 < d .width
+  wide = sides-within d (taken .sides) .0 .0
+
+  high : 0 < d .height
+  high = sides-within d (taken .sides) .1 .0
+
   -- the numbers are as many as the pixels, and as accurate as in the whole buffer
   full : length (take n C) ≡ area d
   full = ap length (taken .begins) ∙ picture-length d p
@@ -237,10 +244,10 @@ module _ (d : Shape) (p C : List ℤ) (n : ℕ) (taken : PictureTaken d p C n) w
       let t = value-taken (picture-value-tests m (packed d) (take n C) px py) v (valueInPicture m (packed d) (take n C) px py) e in
       let factor = one-to greatestFactor m (t .0 .1 .1 .0) in
       let both = or-eq-false-eq-eq-false-and-eq-false (offData m (d .width) px) (offData m (d .height) py) .0 (t .0 .1 .1 .1 .0) in
-      let on-x = on-data m (d .width) px (sides-within d (taken .sides) .0 .0) (both .0) in
-      let on-y = on-data m (d .height) py (sides-within d (taken .sides) .1 .0) (both .1) in
+      let on-x = on-data m (d .width) px wide (both .0) in
+      let on-y = on-data m (d .height) py high (both .1) in
       rw (t .1)
-      (picture-value-accurate m (factor .0) d p (take n C) px py (omega (arith, on-x .0)) (omega (arith, on-y .0)) (sides-within d (taken .sides) .0 .0) (sides-within d (taken .sides) .1 .0) close)
+      (picture-value-accurate m (factor .0) d p (take n C) px py (omega (arith, on-x .0)) (omega (arith, on-y .0)) wide high close)
 
   -- and at a pixel it answers 256 times the pixel
   pub picture-value-returns : (m x y : ℕ) → 0 < m → m ≤ greatestFactor → x < d .width → y < d .height →

@@ -20,7 +20,7 @@ unfolding raster
 raster-length d f = tabulate-length _ 0 (area d)
 
 -- ---- which places a picture has
--- a row of it ends where it ends, or before
+-- each row of it ends within what it reaches over
 pub row-inside : (d : Shape) (y : ℕ) → y < d .height → y * d .pitch + d .width ≤ extent d
 row-inside d y h = let below : y ≤ d .height - 1 = omega arith in omega (arith, mul-le-mul-right (d .pitch) below)
 
@@ -71,6 +71,10 @@ raster-same d e f g wide high same =
     rw (sym wide) (raster-at d f x y l m) ∙ same x y l m)
 
 -- ---- the same picture in two lists
+-- it has as many numbers in both
+pub same-area : {d e : Shape} {k l : List ℤ} → SamePicture d k e l → area d ≡ area e
+same-area s = ap₂ _*_ (s .wide) (s .high)
+
 -- a picture and the same copied out
 pub copied-same : (d : Shape) (l : List ℤ) → SamePicture d l (packed d) (copied d l)
 copied-same d l = record { wide = refl; high = refl; same = λ x y h g. sym (raster-at d (pixel d l) x y h g) }

@@ -17,6 +17,7 @@ use Rattle.bspline.specs.Transforms.{rowCoefficients, pictureCoefficient
 use Rattle.bspline.specs.Values.{Position, valueInRow, valueInPicture, zoomCount, zoomValues}
 use Rattle.bspline.proofs.Negation.{row-coefficients-negated, picture-coefficients-negated, value-in-row-negated, value-in-picture-negated, zoom-values-negated}
 use Rattle.bspline.proofs.Operations.{row-tests, row-value-tests, zoom-tests, picture-tests, picture-value-tests, row-left, picture-left, zoom-left}
+use Rattle.bspline.proofs.PictureLayout.{same-area}
 use Rattle.bspline.proofs.Refusals.{judged-map}
 use Rattle.bspline.proofs.SamePictures.{picture-coefficients-same}
 
@@ -115,7 +116,7 @@ module _ (d : Shape) (p : List ℤ) (e : Shape) (q buffer work C W buffer′ wor
   picture-transform-negated =
       let t = picture-left d p buffer work C W n taken in
       let t′ = picture-left e q buffer′ work′ C′ W′ n′ reversed in (
-        t′ .1 ∙ rw (← same .wide, ← same .high) (sym (t .1)),
+        t′ .1 ∙ sym (t .1 ∙ same-area same),
         t′ .2 ∙ sym (picture-coefficients-same same) ∙ picture-coefficients-negated d p ∙ ap negated (sym (t .2)),
       )
 

@@ -18,7 +18,7 @@ use Rattle.bspline.specs.Refusals.{count, badSides, badPitch, badPixels}
 use Rattle.bspline.specs.Transforms.{firstPass, secondPass, pictureCoefficients}
 use Rattle.bspline.proofs.Lines.{coefficients-same}
 use Rattle.bspline.proofs.Operations.{picture-left}
-use Rattle.bspline.proofs.PictureLayout.{raster-length, raster-same, packed-extent, copied-same}
+use Rattle.bspline.proofs.PictureLayout.{raster-length, raster-same, packed-extent, same-area, copied-same}
 use Rattle.bspline.proofs.Refusals.{sides-within}
 
 -- a number of a picture after a pass: lines with the same data, brought to their unit, have the same coefficients
@@ -57,7 +57,7 @@ module _ {d e : Shape} {p q : List ℤ} (s : SamePicture d p e q) where
   same-coefficients-left buffer work C W buffer′ work′ C′ W′ n n′ f f′ =
       let t = picture-left d p buffer work C W n f in
       let t′ = picture-left e q buffer′ work′ C′ W′ n′ f′ in
-      (t′ .1 ∙ rw (← s .wide, ← s .high) (sym (t .1)), t′ .2 ∙ sym picture-coefficients-same ∙ sym (t .2))
+      (t′ .1 ∙ sym (t .1 ∙ same-area s), t′ .2 ∙ sym picture-coefficients-same ∙ sym (t .2))
 
 -- Numbers between the rows are never used: two slices that agree at the picture's pixels give the same outcome, if both are long enough to hold
 -- the picture or neither is
