@@ -1,24 +1,27 @@
 -- The marked examples M1 to M13 of "Checked examples" hold, by computing. And the exact solutions among them, M7, M8, M9 and M13, are the
--- only ones: whatever solves the equations of the listed data equals the listed numbers, by uniqueness. Assumes nothing.
+-- only ones: whatever solves the equations of the listed data equals the listed numbers, by uniqueness. Other examples hold by computing too: which
+-- sizes, layouts and positions are refused, and as which number. No proof would notice another limit or order in a definition that the code follows;
+-- these do. Assumes nothing.
 use mathlib.Core.Bool.{true, false}
 use mathlib.Core.List.{List, [], _∷_, List·Memᴰ, List·Memᴰ·head, List·Memᴰ·tail}
 use mathlib.Core.Path.{_≡_, refl}
 use Prim.Native.Nat.{ℕ, zero, suc, _<_}
 use native.Mathlib.Omega.{arith}
 use borrow.Author.Count.{below-none, below-more}
-use lib.IntN.{pos, negℤ}
-use lib.ListN.{length}
+use lib.IntN.{ℤ, pos, negℤ}
+use lib.ListN.{length, replicate}
 use Rattle.integers.specs.Rounding.{round}
 use Rattle.bspline.specs.Examples.{Example, rounds, reads, solves, solves-picture, weighs, transforms, Holds, OnlySolution, All, end, _also_, examples}
 use Rattle.bspline.specs.Exact.{Fractions, tridiagonal, Equation, Solves, Grid, SolvesPicture, row, column, whole, wholeGrid}
 use Rattle.bspline.specs.Mirror.{mirror}
 use Rattle.bspline.specs.Recursions.{R, causal, forward, anticausal, backward, coefficient, delivered, coefficients}
 use Rattle.bspline.specs.Lists.{tabulate}
-use Rattle.bspline.specs.Outcomes.{pictureTransform, pictureValue}
-use Rattle.bspline.specs.Refusals.{refusal, badPixels, badCoefficients}
+use Rattle.bspline.specs.Limits.{longestRow, greatestFactor, mostValues, workWords}
+use Rattle.bspline.specs.Outcomes.{rowTransform, rowZoom, rowValue, pictureTransform, pictureValue}
+use Rattle.bspline.specs.Refusals.{refusal, _when_, refusal-1, refusal-2, outside, badSides, badPixels, badCoefficients, offData}
 use Rattle.bspline.specs.PictureLayout.{sides}
 use Rattle.bspline.specs.Transforms.{rowCoefficients}
-use Rattle.bspline.specs.Values.{weights, rowSum, valueInRow}
+use Rattle.bspline.specs.Values.{Position, weights, rowSum, valueInRow}
 use Rattle.bspline.proofs.Uniqueness.{unique, picture-unique}
 
 -- P 0, .., P (n - 1), the last first
@@ -95,13 +98,43 @@ pub kept : (badCoefficients (sides 2 2) 4 ≡ false) × (badCoefficients (sides 
     × (badCoefficients (record { width = 2; height = 2; pitch = 3 }) 4 ≡ true)
 kept = (refl, refl, refl, refl)
 
--- a side is refused before the pitch, and the pitch before work and factor
-pub refused-first : (pictureTransform (record { width = 2; height = 0; pitch = 1 }) [] [] [] .answer ≡ refusal 3)
+-- the limits: 4,096 samples, sides of 512, the factor 16, three numbers with 51 words of work, 65,521 values
+pub within-limits : (refusal-2 longestRow 4096 ≡ (2 when false)) × (badSides (sides 1 512) ≡ false) × (badSides (sides 512 1) ≡ false)
+    × (outside greatestFactor 1 ≡ false) × (outside greatestFactor 16 ≡ false) × (workWords 3 ≡ 51) × (mostValues ≡ 65521)
+within-limits = (refl, refl, refl, refl, refl, refl, refl)
+
+pub beyond-limits : (refusal-1 0 ≡ (1 when true)) × (refusal-2 longestRow 4097 ≡ (2 when true)) × (badSides (sides 0 1) ≡ true) × (badSides (sides 1 0) ≡ true)
+    × (badSides (sides 513 1) ≡ true) × (badSides (sides 1 513) ≡ true) × (outside greatestFactor 0 ≡ true) × (outside greatestFactor 17 ≡ true)
+beyond-limits = (refl, refl, refl, refl, refl, refl, refl, refl)
+
+-- of three samples at factor 2 the places 1 + 1/2 and 2 are on the data, and 2 + 1/2, 3, and 1 + 2/2 are not
+pub on-and-off : (offData 2 3 (record { k = 1; j = 1 }) ≡ false) × (offData 2 3 (record { k = 2; j = 0 }) ≡ false)
+    × (offData 2 3 (record { k = 2; j = 1 }) ≡ true) × (offData 2 3 (record { k = 3; j = 0 }) ≡ true) × (offData 2 3 (record { k = 1; j = 2 }) ≡ true)
+on-and-off = (refl, refl, refl, refl, refl)
+
+-- ---- of several conditions that hold the first in its order refuses
+-- one sample, one coefficient, and a position that is off either
+abbrev one : List ℤ
+one = pos 5 ∷ []
+
+abbrev off : Position
+off = record { k = 1; j = 0 }
+
+pub rows-refused-first : (rowTransform [] [] [] .answer ≡ refusal 1) × (rowTransform one [] [] .answer ≡ refusal 5)
+    × (rowTransform one [] (replicate 49 (pos 0)) .answer ≡ refusal 6)
+    × (rowZoom 0 [] [] .answer ≡ refusal 1) × (rowZoom 0 one [] .answer ≡ refusal 7) × (rowZoom 1 one [] .answer ≡ refusal 9)
+    × (rowValue 0 [] off ≡ refusal 1) × (rowValue 0 one off ≡ refusal 7) × (rowValue 1 one off ≡ refusal 8)
+unfolding rowTransform rowZoom rowValue
+rows-refused-first = (refl, refl, refl, refl, refl, refl, refl, refl, refl)
+
+pub pictures-refused-first : (pictureTransform (record { width = 2; height = 0; pitch = 1 }) [] [] [] .answer ≡ refusal 3)
     × (pictureTransform (record { width = 2; height = 2; pitch = 1 }) [] [] [] .answer ≡ refusal 4)
-    × (pictureValue 0 (record { width = 2; height = 0; pitch = 3 }) [] (record { k = 0; j = 0 }) (record { k = 0; j = 0 }) ≡ refusal 3)
-    × (pictureValue 0 (record { width = 2; height = 2; pitch = 3 }) [] (record { k = 0; j = 0 }) (record { k = 0; j = 0 }) ≡ refusal 4)
+    × (pictureTransform (sides 1 1) one [] [] .answer ≡ refusal 5) × (pictureTransform (sides 1 1) one [] (replicate 49 (pos 0)) .answer ≡ refusal 6)
+    × (pictureValue 0 (record { width = 2; height = 0; pitch = 3 }) [] off off ≡ refusal 3)
+    × (pictureValue 0 (record { width = 2; height = 2; pitch = 3 }) [] off off ≡ refusal 4)
+    × (pictureValue 0 (sides 1 1) one off off ≡ refusal 7) × (pictureValue 1 (sides 1 1) one off off ≡ refusal 8)
 unfolding pictureTransform pictureValue
-refused-first = (refl, refl, refl, refl)
+pictures-refused-first = (refl, refl, refl, refl, refl, refl, refl, refl)
 
 -- a value is not clamped: of the greatest and of the least coefficient it is far outside of 256 times the samples
 pub not-clamped : (valueInRow 1 (pos 2147483647 ∷ []) (record { k = 0; j = 0 }) ≡ pos 134217728)
