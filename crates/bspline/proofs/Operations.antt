@@ -1,8 +1,8 @@
 -- Demands 2 and 3 of values, about operations: what row value, row zoom and picture value answer of the coefficients that an accepted transform
 -- leaves, in a buffer of whatever length. From the two clauses of the transform's contract: the outcome, which tells the count and that the
 -- coefficients begin the buffer, and the accuracy, from which the values' distances and the return of the samples follow. Assumes nothing.
-use mathlib.Core.Bool.{false, _||_}
-use mathlib.Core.List.{List, [], _∷_}
+use mathlib.Core.Bool.{false}
+use mathlib.Core.List.{List}
 use mathlib.Core.Path.{_≡_, refl, sym, ap, _∙_}
 use mathlib.Mathlib.Data.Bool.Basic.{or-eq-false-eq-eq-false-and-eq-false}
 use Prim.Native.Nat.{ℕ, max, _+_, _-_, _*_, _≤_, _<_}
@@ -15,9 +15,9 @@ use lib.Seq.{getD-take, take-at}
 use Rattle.bspline.specs.Exact.{RowAccurate, PictureAccurate}
 use Rattle.bspline.specs.Limits.{longestRow, greatestFactor, workWords}
 use Rattle.bspline.specs.Lists.{at}
-use Rattle.bspline.specs.Outcomes.{overwrite, Transformed, Evaluated, refused, accepted, rowTransform, rowZoom, rowValue, pictureTransform, pictureValue}
+use Rattle.bspline.specs.Outcomes.{overwrite, Transformed, Evaluated, refused, accepted, rowTests, rowTransform, zoomTests, rowZoom, rowValueTests, rowValue, pictureTests, pictureTransform, pictureValueTests, pictureValue}
 use Rattle.bspline.specs.PictureLayout.{Shape, packed, area, place, pixel}
-use Rattle.bspline.specs.Refusals.{Answer, count, value, refusal, Test, badSides, offData, refusal-1, refusal-2, refusal-3, refusal-4-pixels, refusal-4-coefficients, refusal-5, refusal-6, refusal-7, refusal-8, refusal-9, judged}
+use Rattle.bspline.specs.Refusals.{Answer, count, value, refusal, Test, badSides, offData, judged}
 use Rattle.bspline.specs.Transforms.{rowCoefficients, pictureCoefficients}
 use Rattle.bspline.specs.Values.{Position, zoomPosition, zoomCount, zoomValues, valueInRow, valueInPicture, RowValueAccurate, PictureValueAccurate}
 use Rattle.bspline.proofs.Lists.{tabulate-from-zero}
@@ -50,10 +50,6 @@ value-taken tests v w e =
     let t = judged-accepted (λ (a : Answer). a) tests refusal (value w) (value v) never (sym e) in
     (t .0, let f = t .1 in cc)
 
--- the tests of row zoom
-abbrev pub zoom-tests : ℕ → List ℤ → List ℤ → List Test
-zoom-tests m c buffer = refusal-1 (length c) ∷ refusal-2 longestRow (length c) ∷ refusal-7 m ∷ refusal-9 (zoomCount m (length c)) buffer ∷ []
-
 -- row zoom that answers a count has listed so many values, at a factor in range, and they begin the buffer
 pub zoom-left : (m : ℕ) (c buffer vs : List ℤ) (q : ℕ) → record { answer = count q; values = vs } ≡ rowZoom m c buffer →
     (0 < m) × (m ≤ greatestFactor) × (q ≡ zoomCount m (length c)) × (take q vs ≡ zoomValues m c)
@@ -63,7 +59,7 @@ zoom-left m c buffer vs q e =
     let refuse : ℕ → Evaluated = λ k. record { answer = refusal k; values = buffer } in
     let outcome : Evaluated = record { answer = count size; values = overwrite (zoomValues m c) buffer } in
     let never : (k : ℕ) → refusal k ≡ count q → ⊥ = λ k f. let z : _≡_ {A = ℕ} 0 1 = cc in omega arith in
-    let t = judged-accepted (λ (o : Evaluated). o .answer) (zoom-tests m c buffer) refuse outcome _ never e in
+    let t = judged-accepted (λ (o : Evaluated). o .answer) (zoomTests m c buffer) refuse outcome _ never e in
     let same : q ≡ size = let f = ap (λ (o : Evaluated). o .answer) (t .1) in cc in
     let factor = one-to greatestFactor m (t .0 .1 .1 .0) in (
       factor .0,
@@ -73,20 +69,12 @@ zoom-left m c buffer vs q e =
     )
 
 -- ---- rows
--- the tests of the row transform
-abbrev pub row-tests : List ℤ → List ℤ → List ℤ → List Test
-row-tests s buffer work = refusal-1 (length s) ∷ refusal-2 longestRow (length s) ∷ refusal-5 (length s) work ∷ refusal-6 (length s) buffer ∷ []
-
--- and those of row value
-abbrev pub row-value-tests : ℕ → List ℤ → Position → List Test
-row-value-tests m c p = refusal-1 (length c) ∷ refusal-2 longestRow (length c) ∷ refusal-7 m ∷ refusal-8 (offData m (length c) p) ∷ []
-
 -- what the transform leaves where it answers a count
 pub row-left : (s buffer work C W : List ℤ) (n : ℕ) → record { answer = count n; coefficients = C; work = W } ≡ rowTransform s buffer work →
-    Passed (row-tests s buffer work) × (n ≡ length s) × (take n C ≡ rowCoefficients s) × (n ≤ length C)
+    Passed (rowTests s buffer work) × (n ≡ length s) × (take n C ≡ rowCoefficients s) × (n ≤ length C)
 unfolding rowTransform
 row-left s buffer work C W n e =
-    transform-taken (row-tests s buffer work) (length s) (workWords (length s)) (rowCoefficients s) buffer work C W n (row-length s) e
+    transform-taken (rowTests s buffer work) (length s) (workWords (length s)) (rowCoefficients s) buffer work C W n (row-length s) e
 
 -- a row of n samples was taken, and the coefficients of it that are in the buffer are accurate
 pub record RowTaken (s C : List ℤ) (n : ℕ) : Type 0 where
@@ -123,7 +111,7 @@ module _ (s C : List ℤ) (n : ℕ) (taken : RowTaken s C n) where
   pub row-value-near : (m : ℕ) (p : Position) (v : ℤ) → rowValue m (take n C) p ≡ value v → RowValueAccurate m s p v
   unfolding rowValue
   row-value-near m p v e =
-      let t = value-taken (row-value-tests m (take n C) p) v (valueInRow m (take n C) p) e in
+      let t = value-taken (rowValueTests m (take n C) p) v (valueInRow m (take n C) p) e in
       let factor = one-to greatestFactor m (t .0 .1 .1 .0) in
       let on = on-data m (length (take n C)) p (omega (arith, long, taken .some, taken .count)) (t .0 .1 .1 .1 .0) in
       rw (t .1) (row-value-accurate m (factor .0) s (take n C) p (omega (arith, on .0)) (omega (arith, taken .some, taken .count)) long near)
@@ -133,7 +121,7 @@ module _ (s C : List ℤ) (n : ℕ) (taken : RowTaken s C n) where
   unfolding rowValue
   row-value-returns m k some small below =
       let l = take n C in
-      judged-passed (row-value-tests m l (record { k = k; j = 0 })) refusal (value (valueInRow m l (record { k = k; j = 0 }))) (
+      judged-passed (rowValueTests m l (record { k = k; j = 0 })) refusal (value (valueInRow m l (record { k = k; j = 0 }))) (
         ne-eqb (length l) 0 (λ e. omega (arith, long, taken .some, taken .count)),
         (
           le-ltb longestRow (length l) (omega (arith, long, taken .short, taken .count)),
@@ -185,22 +173,13 @@ module _ (s C : List ℤ) (n : ℕ) (taken : RowTaken s C n) where
       pred-le h = omega arith
 
 -- ---- pictures
--- the tests of the picture transform
-abbrev pub picture-tests : Shape → List ℤ → List ℤ → List ℤ → List Test
-picture-tests d p buffer work = refusal-3 d ∷ refusal-4-pixels d p ∷ refusal-5 (max (d .width) (d .height)) work ∷ refusal-6 (area d) buffer ∷ []
-
--- and those of picture value
-abbrev pub picture-value-tests : ℕ → Shape → List ℤ → Position → Position → List Test
-picture-value-tests m d c px py =
-    refusal-3 d ∷ refusal-4-coefficients d c ∷ refusal-7 m ∷ refusal-8 (offData m (d .width) px || offData m (d .height) py) ∷ []
-
 -- what the transform leaves where it answers a count
 pub picture-left : (d : Shape) (p buffer work C W : List ℤ) (n : ℕ) →
     record { answer = count n; coefficients = C; work = W } ≡ pictureTransform d p buffer work →
-    Passed (picture-tests d p buffer work) × (n ≡ area d) × (take n C ≡ pictureCoefficients d p) × (n ≤ length C)
+    Passed (pictureTests d p buffer work) × (n ≡ area d) × (take n C ≡ pictureCoefficients d p) × (n ≤ length C)
 unfolding pictureTransform
 picture-left d p buffer work C W n e =
-    transform-taken (picture-tests d p buffer work) (area d) (workWords (max (d .width) (d .height))) (pictureCoefficients d p) buffer work C W n
+    transform-taken (pictureTests d p buffer work) (area d) (workWords (max (d .width) (d .height))) (pictureCoefficients d p) buffer work C W n
     (picture-length d p) e
 
 -- a picture of n pixels was taken, and the coefficients of it that are in the buffer are accurate
@@ -241,7 +220,7 @@ module _ (d : Shape) (p C : List ℤ) (n : ℕ) (taken : PictureTaken d p C n) w
       pictureValue m (packed d) (take n C) px py ≡ value v → PictureValueAccurate m d p px py v
   unfolding pictureValue
   picture-value-near m px py v e =
-      let t = value-taken (picture-value-tests m (packed d) (take n C) px py) v (valueInPicture m (packed d) (take n C) px py) e in
+      let t = value-taken (pictureValueTests m (packed d) (take n C) px py) v (valueInPicture m (packed d) (take n C) px py) e in
       let factor = one-to greatestFactor m (t .0 .1 .1 .0) in
       let both = or-eq-false-eq-eq-false-and-eq-false (offData m (d .width) px) (offData m (d .height) py) .0 (t .0 .1 .1 .1 .0) in
       let on-x = on-data m (d .width) px wide (both .0) in
@@ -254,7 +233,7 @@ module _ (d : Shape) (p C : List ℤ) (n : ℕ) (taken : PictureTaken d p C n) w
       pictureValue m (packed d) (take n C) (record { k = x; j = 0 }) (record { k = y; j = 0 }) ≡ value (pos 256 *ℤ pixel d p x y)
   unfolding pictureValue
   picture-value-returns m x y some small left above =
-      judged-passed (picture-value-tests m (packed d) (take n C) (record { k = x; j = 0 }) (record { k = y; j = 0 })) refusal
+      judged-passed (pictureValueTests m (packed d) (take n C) (record { k = x; j = 0 }) (record { k = y; j = 0 })) refusal
       (value (valueInPicture m (packed d) (take n C) (record { k = x; j = 0 }) (record { k = y; j = 0 }))) (
         taken .sides,
         (

@@ -10,13 +10,13 @@ use lib.IntN.{ℤ, negℤ}
 use lib.ListN.{length, take, length-map}
 use Rattle.bspline.specs.Limits.{workWords}
 use Rattle.bspline.specs.Negation.{negated, opposite}
-use Rattle.bspline.specs.Outcomes.{overwrite, Transformed, Evaluated, refused, accepted, rowTransform, rowZoom, rowValue, pictureTransform, pictureValue}
+use Rattle.bspline.specs.Outcomes.{overwrite, Transformed, Evaluated, refused, accepted, rowTests, rowTransform, zoomTests, rowZoom, rowValueTests, rowValue, pictureTests, pictureTransform, pictureValueTests, pictureValue}
 use Rattle.bspline.specs.PictureLayout.{Shape, packed, area, SamePicture}
 use Rattle.bspline.specs.Refusals.{count, value, refusal, Test, badPixels, judged}
 use Rattle.bspline.specs.Transforms.{rowCoefficients, pictureCoefficients}
 use Rattle.bspline.specs.Values.{Position, valueInRow, valueInPicture, zoomCount, zoomValues}
 use Rattle.bspline.proofs.Negation.{row-coefficients-negated, picture-coefficients-negated, value-in-row-negated, value-in-picture-negated, zoom-values-negated}
-use Rattle.bspline.proofs.Operations.{row-tests, row-value-tests, zoom-tests, picture-tests, picture-value-tests, row-left, picture-left, zoom-left}
+use Rattle.bspline.proofs.Operations.{row-left, picture-left, zoom-left}
 use Rattle.bspline.proofs.PictureLayout.{same-area}
 use Rattle.bspline.proofs.Refusals.{judged-map}
 use Rattle.bspline.proofs.SamePictures.{picture-coefficients-same}
@@ -29,14 +29,14 @@ same-length l = length-map l negℤ
 pub row-value-negated : (m : ℕ) (c : List ℤ) (p : Position) → rowValue m (negated c) p ≡ opposite (rowValue m c p)
 unfolding rowValue
 row-value-negated m c p =
-    rw (same-length c, value-in-row-negated m c p) (sym (judged-map opposite (row-value-tests m c p) refusal (value (valueInRow m c p))))
+    rw (same-length c, value-in-row-negated m c p) (sym (judged-map opposite (rowValueTests m c p) refusal (value (valueInRow m c p))))
 
 -- and so of a picture
 pub picture-value-negated : (m : ℕ) (d : Shape) (c : List ℤ) (px py : Position) → pictureValue m d (negated c) px py ≡ opposite (pictureValue m d c px py)
 unfolding pictureValue
 picture-value-negated m d c px py =
     rw (same-length c, value-in-picture-negated m d c px py)
-    (sym (judged-map opposite (picture-value-tests m d c px py) refusal (value (valueInPicture m d c px py))))
+    (sym (judged-map opposite (pictureValueTests m d c px py) refusal (value (valueInPicture m d c px py))))
 
 -- ---- row zoom: two calls, each with a buffer of its own
 -- the values that the one lists are those of the other negated
@@ -55,9 +55,9 @@ pub row-zoom-alike : (m : ℕ) (c buffer buffer′ : List ℤ) → length buffer
 unfolding rowZoom
 row-zoom-alike m c buffer buffer′ e = answer (negated c) buffer′ ∙ rw (same-length c, e) (sym (answer c buffer))
   where
-    answer : (c buffer : List ℤ) → rowZoom m c buffer .answer ≡ judged (zoom-tests m c buffer) refusal (count (zoomCount m (length c)))
+    answer : (c buffer : List ℤ) → rowZoom m c buffer .answer ≡ judged (zoomTests m c buffer) refusal (count (zoomCount m (length c)))
     answer c buffer =
-        judged-map (λ (o : Evaluated). o .answer) (zoom-tests m c buffer) (λ k. record { answer = refusal k; values = buffer })
+        judged-map (λ (o : Evaluated). o .answer) (zoomTests m c buffer) (λ k. record { answer = refusal k; values = buffer })
         (record { answer = count (zoomCount m (length c)); values = overwrite (zoomValues m c) buffer })
 
 -- ---- the transforms: two calls likewise
@@ -71,8 +71,8 @@ pub row-transform-alike : (s buffer work buffer′ work′ : List ℤ) → lengt
     rowTransform (negated s) buffer′ work′ .answer ≡ rowTransform s buffer work .answer
 unfolding rowTransform
 row-transform-alike s buffer work buffer′ work′ e f =
-    transform-answer (row-tests (negated s) buffer′ work′) (length (negated s)) (workWords (length (negated s))) (rowCoefficients (negated s)) buffer′ work′
-    ∙ rw (same-length s, e, f) (sym (transform-answer (row-tests s buffer work) (length s) (workWords (length s)) (rowCoefficients s) buffer work))
+    transform-answer (rowTests (negated s) buffer′ work′) (length (negated s)) (workWords (length (negated s))) (rowCoefficients (negated s)) buffer′ work′
+    ∙ rw (same-length s, e, f) (sym (transform-answer (rowTests s buffer work) (length s) (workWords (length s)) (rowCoefficients s) buffer work))
 
 -- and so are a picture and its negation, which may lie in a slice of its own, by a description of its own: if both are refused for their pixels, or
 -- neither is
@@ -81,9 +81,9 @@ pub picture-transform-alike : (d : Shape) (p : List ℤ) (e : Shape) (q buffer w
     pictureTransform e q buffer′ work′ .answer ≡ pictureTransform d p buffer work .answer
 unfolding pictureTransform
 picture-transform-alike d p e q buffer work buffer′ work′ same b f g =
-    transform-answer (picture-tests e q buffer′ work′) (area e) (workWords (max (e .width) (e .height))) (pictureCoefficients e q) buffer′ work′
+    transform-answer (pictureTests e q buffer′ work′) (area e) (workWords (max (e .width) (e .height))) (pictureCoefficients e q) buffer′ work′
     ∙ rw (b, ← same .wide, ← same .high, f, g)
-    (sym (transform-answer (picture-tests d p buffer work) (area d) (workWords (max (d .width) (d .height))) (pictureCoefficients d p) buffer work))
+    (sym (transform-answer (pictureTests d p buffer work) (area d) (workWords (max (d .width) (d .height))) (pictureCoefficients d p) buffer work))
 
 module _ (s buffer work C W buffer′ work′ C′ W′ : List ℤ) (n n′ : ℕ)
     (taken : record { answer = count n; coefficients = C; work = W } ≡ rowTransform s buffer work)

@@ -6,7 +6,7 @@ use lib.IntN.{ℤ, pos}
 use lib.ListN.{length, drop, replicate}
 use Rattle.bspline.specs.PictureLayout.{Shape, area}
 use Rattle.bspline.specs.Limits.{longestRow, workWords}
-use Rattle.bspline.specs.Refusals.{Answer, count, value, refusal, refusal-1, refusal-2, refusal-3, refusal-4-pixels, refusal-4-coefficients, refusal-5, refusal-6, refusal-7, refusal-8, refusal-9, offData, judged}
+use Rattle.bspline.specs.Refusals.{Answer, count, value, refusal, Test, refusal-1, refusal-2, refusal-3, refusal-4-pixels, refusal-4-coefficients, refusal-5, refusal-6, refusal-7, refusal-8, refusal-9, offData, judged}
 use Rattle.bspline.specs.Transforms.{rowCoefficients, pictureCoefficients}
 use Rattle.bspline.specs.Values.{Position, valueInRow, valueInPicture, zoomCount, zoomValues}
 
@@ -29,19 +29,20 @@ abbrev pub accepted : ℕ → List ℤ → ℕ → List ℤ → List ℤ → Tra
 accepted n C words buffer work = record { answer = count n; coefficients = overwrite C buffer; work = overwrite (replicate words (pos 0)) work }
 
 -- row transform: 1, 2, 5, 6
+abbrev pub rowTests : List ℤ → List ℤ → List ℤ → List Test
+rowTests s buffer work = refusal-1 (length s) ∷ refusal-2 longestRow (length s) ∷ refusal-5 (length s) work ∷ refusal-6 (length s) buffer ∷ []
+
 unfoldable pub rowTransform : List ℤ → List ℤ → List ℤ → Transformed
 rowTransform s buffer work =
-    judged (refusal-1 (length s) ∷ refusal-2 longestRow (length s) ∷ refusal-5 (length s) work ∷ refusal-6 (length s) buffer ∷ [])
-    (refused buffer work)
-    (accepted (length s) (rowCoefficients s) (workWords (length s)) buffer work)
+    judged (rowTests s buffer work) (refused buffer work) (accepted (length s) (rowCoefficients s) (workWords (length s)) buffer work)
 
 -- picture transform: 3 to 6
+abbrev pub pictureTests : Shape → List ℤ → List ℤ → List ℤ → List Test
+pictureTests d p buffer work = refusal-3 d ∷ refusal-4-pixels d p ∷ refusal-5 (max (d .width) (d .height)) work ∷ refusal-6 (area d) buffer ∷ []
+
 unfoldable pub pictureTransform : Shape → List ℤ → List ℤ → List ℤ → Transformed
 pictureTransform d p buffer work =
-    let longer = max (d .width) (d .height) in
-    judged (refusal-3 d ∷ refusal-4-pixels d p ∷ refusal-5 longer work ∷ refusal-6 (area d) buffer ∷ [])
-    (refused buffer work)
-    (accepted (area d) (pictureCoefficients d p) (workWords longer) buffer work)
+    judged (pictureTests d p buffer work) (refused buffer work) (accepted (area d) (pictureCoefficients d p) (workWords (max (d .width) (d .height))) buffer work)
 
 -- ---- row zoom: the answer, and the value buffer afterwards
 pub record Evaluated : Type 0 where
@@ -49,23 +50,26 @@ pub record Evaluated : Type 0 where
   pub values : List ℤ
 
 -- it tests 1, 2, 7, 9
+abbrev pub zoomTests : ℕ → List ℤ → List ℤ → List Test
+zoomTests m c buffer = refusal-1 (length c) ∷ refusal-2 longestRow (length c) ∷ refusal-7 m ∷ refusal-9 (zoomCount m (length c)) buffer ∷ []
+
 unfoldable pub rowZoom : ℕ → List ℤ → List ℤ → Evaluated
 rowZoom m c buffer =
-    let n = zoomCount m (length c) in
-    judged (refusal-1 (length c) ∷ refusal-2 longestRow (length c) ∷ refusal-7 m ∷ refusal-9 n buffer ∷ [])
+    judged (zoomTests m c buffer)
     (λ k. record { answer = refusal k; values = buffer })
-    (record { answer = count n; values = overwrite (zoomValues m c) buffer })
+    (record { answer = count (zoomCount m (length c)); values = overwrite (zoomValues m c) buffer })
 
 -- ---- the two values: an answer alone, since they write nothing. Row value tests 1, 2, 7, 8
+abbrev pub rowValueTests : ℕ → List ℤ → Position → List Test
+rowValueTests m c p = refusal-1 (length c) ∷ refusal-2 longestRow (length c) ∷ refusal-7 m ∷ refusal-8 (offData m (length c) p) ∷ []
+
 unfoldable pub rowValue : ℕ → List ℤ → Position → Answer
-rowValue m c p =
-    judged (refusal-1 (length c) ∷ refusal-2 longestRow (length c) ∷ refusal-7 m ∷ refusal-8 (offData m (length c) p) ∷ [])
-    refusal
-    (value (valueInRow m c p))
+rowValue m c p = judged (rowValueTests m c p) refusal (value (valueInRow m c p))
 
 -- picture value: 3, 4, 7, 8, the last on each axis
+abbrev pub pictureValueTests : ℕ → Shape → List ℤ → Position → Position → List Test
+pictureValueTests m d c px py =
+    refusal-3 d ∷ refusal-4-coefficients d c ∷ refusal-7 m ∷ refusal-8 (offData m (d .width) px || offData m (d .height) py) ∷ []
+
 unfoldable pub pictureValue : ℕ → Shape → List ℤ → Position → Position → Answer
-pictureValue m d c px py =
-    judged (refusal-3 d ∷ refusal-4-coefficients d c ∷ refusal-7 m ∷ refusal-8 (offData m (d .width) px || offData m (d .height) py) ∷ [])
-    refusal
-    (value (valueInPicture m d c px py))
+pictureValue m d c px py = judged (pictureValueTests m d c px py) refusal (value (valueInPicture m d c px py))
