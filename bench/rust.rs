@@ -193,9 +193,9 @@ pub fn row_zoom(coefficients: &[i32], factor: usize, values: &mut [i32]) -> i64 
     count as i64
 }
 
-/// Whether a position, k and the numerator j, is off a line of n at a factor.
-fn off_data((k, j): (usize, usize), factor: usize, n: usize) -> bool {
-    j >= factor || k >= n || (k == n - 1 && j > 0)
+/// Whether a position, k and the numerator j, is past the end of a line of n.
+fn past_end((k, j): (usize, usize), n: usize) -> bool {
+    k >= n || (k == n - 1 && j > 0)
 }
 
 /// The value, or what stands for a refusal. It is not inlined, since a value of the library is one call too: in a loop the compiler would test
@@ -212,8 +212,11 @@ pub fn row_value(coefficients: &[i32], position: (usize, usize), factor: usize) 
     if factor == 0 || factor > LARGEST_FACTOR {
         return REFUSED + 7;
     }
-    if off_data(position, factor, n) {
+    if position.1 >= factor {
         return REFUSED + 8;
+    }
+    if past_end(position, n) {
+        return REFUSED + 14;
     }
     let (k, j) = position;
     let m = factor as i64;
@@ -249,8 +252,14 @@ pub fn picture_value(
     if factor == 0 || factor > LARGEST_FACTOR {
         return REFUSED + 7;
     }
-    if off_data(x, factor, width) || off_data(y, factor, height) {
+    if x.1 >= factor || y.1 >= factor {
         return REFUSED + 8;
+    }
+    if past_end(x, width) {
+        return REFUSED + 14;
+    }
+    if past_end(y, height) {
+        return REFUSED + 15;
     }
     let m = factor as i64;
     let along_x = weights(x.1 as i64, m);

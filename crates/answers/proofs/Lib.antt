@@ -1,3 +1,3 @@
 -- What is known of a factor, a picture or a position that is not refused.
 pub mod WithinLimits
-pub mod OnData
+pub mod Inside

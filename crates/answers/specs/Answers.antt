@@ -5,7 +5,7 @@ use Rattle.bspline.specs.PictureLayout as layout
 use Rattle.bspline.specs.Values as values
 use Rattle.answers.specs.declared.Position.{Position}
 use Rattle.answers.specs.declared.Refusal.{Refusal}
-use Rattle.answers.specs.declared.Refusal.the-variants.{EmptyRow, LongRow, BadSide, WrongLayout, ShortWork, ShortCoefficients, BadFactor, OffData, ShortValues, BadText, BadFile, OtherFormat, UnfitSamples}
+use Rattle.answers.specs.declared.Refusal.the-variants.{EmptyRow, LongRow, BadSide, WrongLayout, ShortWork, ShortCoefficients, BadFactor, BadNumerator, ShortValues, BadText, BadFile, OtherFormat, UnfitSamples, PastEnd, PastBottom}
 use Rattle.answers.specs.declared.Shape.{Shape}
 use Rattle.answers.specs.declared.Valued.{Valued}
 use Rattle.answers.specs.declared.Valued.the-variants.{Value, Refused as NoValue}
@@ -21,12 +21,14 @@ number WrongLayout = 4
 number ShortWork = 5
 number ShortCoefficients = 6
 number BadFactor = 7
-number OffData = 8
+number BadNumerator = 8
 number ShortValues = 9
 number BadText = 10
 number BadFile = 11
 number OtherFormat = 12
 number UnfitSamples = 13
+number PastEnd = 14
+number PastBottom = 15
 
 -- what an enum answers
 abbrev pub written : Written → Answer

@@ -1,8 +1,8 @@
-// Which factors, sides, layouts and positions are refused.
+// Which factors, sides, layouts, numerators and places are refused.
 ghost use mathlib.Core.Path.{_≡_};
 ghost use Prim.Native.Nat.{_<_};
 ghost use Rattle.bspline.specs.Limits.{greatestFactor};
-ghost use Rattle.bspline.specs.Refusals.{badCoefficients, badPixels, badSides, offData, outside as Refusals·outside};
+ghost use Rattle.bspline.specs.Refusals.{badCoefficients, badNumerator, badPixels, badSides, outside as Refusals·outside, pastEnd};
 ghost use Rattle.answers.specs.Answers.{described, placed};
 ghost use Rattle.answers.specs.Limits.{GoodSides};
 use crate::Position;
@@ -58,16 +58,20 @@ pub fn bad_coefficients(shape: Shape, length: usize) -> bool
     shape.pitch != width || length != width * shape.height
 }
 
-// Whether a position is off the n data.
-pub fn off_data(m: usize, n: usize, position: Position) -> bool
+// Whether a numerator is refused.
+pub fn bad_numerator(m: usize, position: Position) -> bool
+    ensures { λ r. ⌜ r ≡ badNumerator m (placed position) ⌝ }
+{
+    m <= position.j
+}
+
+// Whether a place is past the end of n data: of a row, or of a side.
+pub fn past_end(n: usize, position: Position) -> bool
     requires { ⌜ 0 < n ⌝ }
-    ensures { λ r. ⌜ r ≡ offData m n (placed position) ⌝ }
+    ensures { λ r. ⌜ r ≡ pastEnd n (placed position) ⌝ }
 {
     let k = position.k;
     let j = position.j;
-    if m <= j {
-        return true;
-    }
     if n - 1 < k {
         return true;
     }

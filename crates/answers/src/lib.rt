@@ -16,12 +16,14 @@ pub enum Refusal {
     ShortWork,
     ShortCoefficients,
     BadFactor,
-    OffData,
+    BadNumerator,
     ShortValues,
     BadText,
     BadFile,
     OtherFormat,
     UnfitSamples,
+    PastEnd,
+    PastBottom,
 }
 
 impl Refusal {
@@ -37,12 +39,14 @@ impl Refusal {
             Refusal::ShortWork => 5,
             Refusal::ShortCoefficients => 6,
             Refusal::BadFactor => 7,
-            Refusal::OffData => 8,
+            Refusal::BadNumerator => 8,
             Refusal::ShortValues => 9,
             Refusal::BadText => 10,
             Refusal::BadFile => 11,
             Refusal::OtherFormat => 12,
             Refusal::UnfitSamples => 13,
+            Refusal::PastEnd => 14,
+            Refusal::PastBottom => 15,
         }
     }
 

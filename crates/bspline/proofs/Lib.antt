@@ -18,6 +18,7 @@ pub mod Residual
 pub mod Margin
 pub mod Accuracy
 pub mod Refusals
+pub mod OffData
 pub mod Weights
 pub mod Values
 pub mod Zoom

@@ -4,11 +4,10 @@
 use mathlib.Core.Bool.{false}
 use mathlib.Core.List.{List}
 use mathlib.Core.Path.{_≡_, refl, sym, ap, _∙_}
-use mathlib.Mathlib.Data.Bool.Basic.{or-eq-false-eq-eq-false-and-eq-false}
 use Prim.Native.Nat.{ℕ, max, _+_, _-_, _*_, _≤_, _<_}
 use native.Mathlib.Nat.{add-zero, mod-lt, mul-le-mul-right}
 use native.Mathlib.Omega.{arith}
-use borrow.Author.Tests.{ltb-false, eqb-false, ne-eqb, eq-eqb, le-ltb}
+use borrow.Author.Tests.{ltb-false, eqb-false, ne-eqb, eq-eqb, lt-leb, le-ltb}
 use lib.IntN.{ℤ, pos, _*ℤ_}
 use lib.ListN.{length, take, drop, length-append}
 use lib.Seq.{getD-take, take-at}
@@ -17,12 +16,12 @@ use Rattle.bspline.specs.Limits.{longestRow, greatestFactor, workWords}
 use Rattle.bspline.specs.Lists.{at}
 use Rattle.bspline.specs.Outcomes.{overwrite, Transformed, Evaluated, refused, accepted, rowTests, rowTransform, zoomTests, rowZoom, rowValueTests, rowValue, pictureTests, pictureTransform, pictureValueTests, pictureValue}
 use Rattle.bspline.specs.PictureLayout.{Shape, packed, area, place, pixel}
-use Rattle.bspline.specs.Refusals.{Answer, count, value, refusal, Test, badSides, offData, judged}
+use Rattle.bspline.specs.Refusals.{Answer, count, value, refusal, Test, badSides, judged}
 use Rattle.bspline.specs.Transforms.{rowCoefficients, pictureCoefficients}
 use Rattle.bspline.specs.Values.{Position, zoomPosition, zoomCount, zoomValues, valueInRow, valueInPicture, RowValueAccurate, PictureValueAccurate}
 use Rattle.bspline.proofs.Lists.{tabulate-from-zero}
 use Rattle.bspline.proofs.PictureLayout.{place-below}
-use Rattle.bspline.proofs.Refusals.{Passed, judged-passed, judged-accepted, one-to, inside, sides-within, on-data, sample-on-data}
+use Rattle.bspline.proofs.Refusals.{Passed, judged-passed, judged-accepted, one-to, inside, sides-within, numerator-below, sample-inside}
 use Rattle.bspline.proofs.Transforms.{row-length, picture-length}
 use Rattle.bspline.proofs.Zoom.{position-at, zoom-length}
 use Rattle.bspline.proofs.Values.{row-value-accurate, sample-returns, picture-value-accurate, pixel-returns}
@@ -113,8 +112,8 @@ module _ (s C : List ℤ) (n : ℕ) (taken : RowTaken s C n) where
   row-value-near m p v e =
       let t = value-taken (rowValueTests m (take n C) p) v (valueInRow m (take n C) p) e in
       let factor = one-to greatestFactor m (t .0 .1 .1 .0) in
-      let on = on-data m (length (take n C)) p (omega (arith, long, taken .some, taken .count)) (t .0 .1 .1 .1 .0) in
-      rw (t .1) (row-value-accurate m (factor .0) s (take n C) p (omega (arith, on .0)) (omega (arith, taken .some, taken .count)) long near)
+      let below = numerator-below m p (t .0 .1 .1 .1 .0) in
+      rw (t .1) (row-value-accurate m (factor .0) s (take n C) p (omega (arith, below)) (omega (arith, taken .some, taken .count)) long near)
 
   -- and at a sample it answers 256 times the sample
   pub row-value-returns : (m k : ℕ) → 0 < m → m ≤ greatestFactor → k < n → rowValue m (take n C) (record { k = k; j = 0 }) ≡ value (pos 256 *ℤ at s k)
@@ -125,7 +124,7 @@ module _ (s C : List ℤ) (n : ℕ) (taken : RowTaken s C n) where
         ne-eqb (length l) 0 (λ e. omega (arith, long, taken .some, taken .count)),
         (
           le-ltb longestRow (length l) (omega (arith, long, taken .short, taken .count)),
-          (inside greatestFactor m some small, (sample-on-data m (length l) k some (omega (arith, long, taken .count)), tt)),
+          (inside greatestFactor m some small, (lt-leb m 0 some, (sample-inside (length l) k (omega (arith, long, taken .count)), tt))),
         ),
       )
       ∙ ap value (sample-returns m some s l long near k (omega (arith, taken .count)))
@@ -222,11 +221,10 @@ module _ (d : Shape) (p C : List ℤ) (n : ℕ) (taken : PictureTaken d p C n) w
   picture-value-near m px py v e =
       let t = value-taken (pictureValueTests m (packed d) (take n C) px py) v (valueInPicture m (packed d) (take n C) px py) e in
       let factor = one-to greatestFactor m (t .0 .1 .1 .0) in
-      let both = or-eq-false-eq-eq-false-and-eq-false (offData m (d .width) px) (offData m (d .height) py) .0 (t .0 .1 .1 .1 .0) in
-      let on-x = on-data m (d .width) px wide (both .0) in
-      let on-y = on-data m (d .height) py high (both .1) in
+      let along = numerator-below m px (t .0 .1 .1 .1 .0) in
+      let down = numerator-below m py (t .0 .1 .1 .1 .1 .0) in
       rw (t .1)
-      (picture-value-accurate m (factor .0) d p (take n C) px py (omega (arith, on-x .0)) (omega (arith, on-y .0)) wide high close)
+      (picture-value-accurate m (factor .0) d p (take n C) px py (omega (arith, along)) (omega (arith, down)) wide high close)
 
   -- and at a pixel it answers 256 times the pixel
   pub picture-value-returns : (m x y : ℕ) → 0 < m → m ≤ greatestFactor → x < d .width → y < d .height →
@@ -240,7 +238,7 @@ module _ (d : Shape) (p C : List ℤ) (n : ℕ) (taken : PictureTaken d p C n) w
           rw (eq-eqb (d .width) (d .width) refl, eq-eqb (length (take n C)) (area d) full) refl,
           (
             inside greatestFactor m some small,
-            (rw (sample-on-data m (d .width) x some left, sample-on-data m (d .height) y some above) refl, tt),
+            (lt-leb m 0 some, (lt-leb m 0 some, (sample-inside (d .width) x left, (sample-inside (d .height) y above, tt)))),
           ),
         ),
       )

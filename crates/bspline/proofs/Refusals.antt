@@ -1,15 +1,15 @@
 -- What is known where the test of a refusal fails, and of an outcome that tests decide. Assumes nothing.
-use mathlib.Core.Bool.{true, false, not, _||_, _&&_, and-false}
-use mathlib.Core.List.{List, [], _∷_}
+use mathlib.Core.Bool.{Bool, true, false, not, _||_, _&&_, and-false}
+use mathlib.Core.List.{List, [], _∷_, _++_}
 use mathlib.Core.Path.{_≡_, refl, sym, ap}
 use mathlib.Mathlib.Data.Bool.Basic.{or-eq-false-eq-eq-false-and-eq-false}
 use Prim.Native.Nat.{ℕ, _-_, _≤_, _<_}
 use native.Mathlib.Omega.{arith}
-use borrow.Author.Tests.{ltb-false, leb-false, eqb-true, eqb-false, not-false, ne-eqb, lt-leb, le-ltb}
-use lib.Dec.{eqb, leb, ltb}
+use borrow.Author.Tests.{ltb-false, leb-false, eqb-true, eqb-false, not-false, ne-eqb, le-ltb}
+use lib.Dec.{eqb, ltb}
 use Rattle.bspline.specs.Limits.{longestSide}
 use Rattle.bspline.specs.PictureLayout.{Shape, packed, area, extent}
-use Rattle.bspline.specs.Refusals.{Answer, Test, _when_, outside, badSides, badPitch, badPixels, badCoefficients, offData, judged}
+use Rattle.bspline.specs.Refusals.{Answer, Test, _when_, outside, badSides, badPitch, badPixels, badCoefficients, badNumerator, pastEnd, judged}
 use Rattle.bspline.specs.Values.{Position}
 
 -- a number that is neither 0 nor above a limit
@@ -66,6 +66,13 @@ judged-passed [] refuse result p = refl
 judged-passed ((k when true) ∷ tests) refuse result p = let z : _≡_ {A = ℕ} 0 1 = cc (p .0) in absurd (omega arith)
 judged-passed ((k when false) ∷ tests) refuse result p = judged-passed tests refuse result (p .1)
 
+-- where none of the first tests' conditions holds, and the next one's does, that one refuses
+pub judged-refused : {A : Type 0} (before : List Test) (k : ℕ) (c : Bool) (tests : List Test) (refuse : ℕ → A) (result : A) →
+    Passed before → c ≡ true → judged (before ++ (k when c) ∷ tests) refuse result ≡ refuse k
+judged-refused [] k c tests refuse result p e = ap (λ (b : Bool). judged ((k when b) ∷ tests) refuse result) e
+judged-refused ((l when true) ∷ before) k c tests refuse result p e = let z : _≡_ {A = ℕ} 0 1 = cc (p .0) in absurd (omega arith)
+judged-refused ((l when false) ∷ before) k c tests refuse result p e = judged-refused before k c tests refuse result (p .1) e
+
 -- an outcome whose answer is no refusal is the accepted one, and no condition holds
 pub judged-accepted : {A : Type 0} (answer : A → Answer) (tests : List Test) (refuse : ℕ → A) (result o : A) →
     ((k : ℕ) → answer (refuse k) ≡ answer o → ⊥) → o ≡ judged tests refuse result → Passed tests × (o ≡ result)
@@ -74,14 +81,30 @@ judged-accepted answer ((k when true) ∷ tests) refuse result o never e = absur
 judged-accepted answer ((k when false) ∷ tests) refuse result o never e =
     let rest = judged-accepted answer tests refuse result o never e in ((refl, rest .0), rest .1)
 
--- ---- positions
--- a position that is not off n data has its numerator below the factor and its place below n
-pub on-data : (m n : ℕ) (p : Position) → 0 < n → offData m n p ≡ false → (p .j < m) × (p .k < n)
-on-data m n p some e =
-    let both = or-eq-false-eq-eq-false-and-eq-false (leb m (p .j) || ltb (n - 1) (p .k)) (eqb (p .k) (n - 1) && ltb 0 (p .j)) .0 e in
-    let each = or-eq-false-eq-eq-false-and-eq-false (leb m (p .j)) (ltb (n - 1) (p .k)) .0 (both .0) in
-    (leb-false m (p .j) (each .0), omega (arith, ltb-false (n - 1) (p .k) (each .1)))
+-- tests that decide alike do so after the same first tests too
+pub judged-after : {A : Type 0} (before tests others : List Test) (refuse : ℕ → A) (result : A) →
+    judged tests refuse result ≡ judged others refuse result → judged (before ++ tests) refuse result ≡ judged (before ++ others) refuse result
+judged-after [] tests others refuse result e = e
+judged-after ((k when true) ∷ before) tests others refuse result e = refl
+judged-after ((k when false) ∷ before) tests others refuse result e = judged-after before tests others refuse result e
 
--- a sample's own place is on the data
-pub sample-on-data : (m n k : ℕ) → 0 < m → k < n → offData m n (record { k = k; j = 0 }) ≡ false
-sample-on-data m n k some inside = rw (lt-leb m 0 some, le-ltb (n - 1) k (omega arith)) (and-false (eqb k (n - 1)))
+-- two tests of one number, one after the other, are one test
+pub judged-joined : {A : Type 0} (k : ℕ) (a b : Bool) (tests : List Test) (refuse : ℕ → A) (result : A) →
+    judged ((k when a) ∷ (k when b) ∷ tests) refuse result ≡ judged ((k when (a || b)) ∷ tests) refuse result
+judged-joined k true b tests refuse result = refl
+judged-joined k false b tests refuse result = refl
+
+-- ---- positions
+-- a numerator that is not refused is below the factor
+pub numerator-below : (m : ℕ) (p : Position) → badNumerator m p ≡ false → p .j < m
+numerator-below m p e = leb-false m (p .j) e
+
+-- a place that is not past the end of n data is below n
+pub place-inside : (n : ℕ) (p : Position) → 0 < n → pastEnd n p ≡ false → p .k < n
+place-inside n p some e =
+    let both = or-eq-false-eq-eq-false-and-eq-false (ltb (n - 1) (p .k)) (eqb (p .k) (n - 1) && ltb 0 (p .j)) .0 e in
+    omega (arith, ltb-false (n - 1) (p .k) (both .0))
+
+-- the place of a sample is not past the end
+pub sample-inside : (n k : ℕ) → k < n → pastEnd n (record { k = k; j = 0 }) ≡ false
+sample-inside n k inside = rw (le-ltb (n - 1) k (omega arith)) (and-false (eqb k (n - 1)))

@@ -1,7 +1,7 @@
 -- The marked examples M1 to M13 of "Checked examples" hold, by computing. And the exact solutions among them, M7, M8, M9 and M13, are the
 -- only ones: whatever solves the equations of the listed data equals the listed numbers, by uniqueness. Other examples hold by computing too: which
--- sizes, layouts and positions are refused, and as which number. No proof would notice another limit or order in a definition that the code follows;
--- these do. Assumes nothing.
+-- sizes, layouts and positions are refused, and as which number. Most proofs hold with another limit, order or number in a definition that the code
+-- follows; these examples do not. Assumes nothing.
 use mathlib.Core.Bool.{true, false}
 use mathlib.Core.List.{List, [], _∷_, List·Memᴰ, List·Memᴰ·head, List·Memᴰ·tail}
 use mathlib.Core.Path.{_≡_, refl}
@@ -18,7 +18,7 @@ use Rattle.bspline.specs.Recursions.{R, causal, forward, anticausal, bac
 use Rattle.bspline.specs.Lists.{tabulate}
 use Rattle.bspline.specs.Limits.{longestRow, greatestFactor, mostValues, workWords}
 use Rattle.bspline.specs.Outcomes.{rowTransform, rowZoom, rowValue, pictureTransform, pictureValue}
-use Rattle.bspline.specs.Refusals.{refusal, _when_, refusal-1, refusal-2, outside, badSides, badPixels, badCoefficients, offData}
+use Rattle.bspline.specs.Refusals.{refusal, _when_, refusal-1, refusal-2, outside, badSides, badPixels, badCoefficients, badNumerator, pastEnd}
 use Rattle.bspline.specs.PictureLayout.{sides}
 use Rattle.bspline.specs.Transforms.{rowCoefficients}
 use Rattle.bspline.specs.Values.{Position, weights, rowSum, valueInRow}
@@ -107,34 +107,57 @@ pub beyond-limits : (refusal-1 0 ≡ (1 when true)) × (refusal-2 longestRow 409
     × (badSides (sides 513 1) ≡ true) × (badSides (sides 1 513) ≡ true) × (outside greatestFactor 0 ≡ true) × (outside greatestFactor 17 ≡ true)
 beyond-limits = (refl, refl, refl, refl, refl, refl, refl, refl)
 
--- of three samples at factor 2 the places 1 + 1/2 and 2 are on the data, and 2 + 1/2, 3, and 1 + 2/2 are not
-pub on-and-off : (offData 2 3 (record { k = 1; j = 1 }) ≡ false) × (offData 2 3 (record { k = 2; j = 0 }) ≡ false)
-    × (offData 2 3 (record { k = 2; j = 1 }) ≡ true) × (offData 2 3 (record { k = 3; j = 0 }) ≡ true) × (offData 2 3 (record { k = 1; j = 2 }) ≡ true)
-on-and-off = (refl, refl, refl, refl, refl)
+-- at factor 2 the numerator 1 is good and 2 is not; of three samples the places 1 + 1/2 and 2 are on the data, and 2 + 1/2 and 3 are past the end
+pub on-and-off : (badNumerator 2 (record { k = 2; j = 1 }) ≡ false) × (badNumerator 2 (record { k = 1; j = 2 }) ≡ true)
+    × (pastEnd 3 (record { k = 1; j = 1 }) ≡ false) × (pastEnd 3 (record { k = 2; j = 0 }) ≡ false)
+    × (pastEnd 3 (record { k = 2; j = 1 }) ≡ true) × (pastEnd 3 (record { k = 3; j = 0 }) ≡ true)
+on-and-off = (refl, refl, refl, refl, refl, refl)
 
 -- ---- of several conditions that hold the first in its order refuses
--- one sample, one coefficient, and a position that is off either
-abbrev one : List ℤ
-one = pos 5 ∷ []
+-- zeros, and a position
+abbrev zeros : ℕ → List ℤ
+zeros n = replicate n (pos 0)
 
-abbrev off : Position
-off = record { k = 1; j = 0 }
+abbrev position : ℕ → ℕ → Position
+position k j = record { k = k; j = j }
 
-pub rows-refused-first : (rowTransform [] [] [] .answer ≡ refusal 1) × (rowTransform one [] [] .answer ≡ refusal 5)
-    × (rowTransform one [] (replicate 49 (pos 0)) .answer ≡ refusal 6)
-    × (rowZoom 0 [] [] .answer ≡ refusal 1) × (rowZoom 0 one [] .answer ≡ refusal 7) × (rowZoom 1 one [] .answer ≡ refusal 9)
-    × (rowValue 0 [] off ≡ refusal 1) × (rowValue 0 one off ≡ refusal 7) × (rowValue 1 one off ≡ refusal 8)
+pub rows-refused-first : (rowTransform [] [] [] .answer ≡ refusal 1) × (rowTransform (zeros 4097) [] [] .answer ≡ refusal 2)
+    × (rowTransform (zeros 1) [] [] .answer ≡ refusal 5) × (rowTransform (zeros 1) [] (zeros 49) .answer ≡ refusal 6)
+    × (rowZoom 0 [] [] .answer ≡ refusal 1) × (rowZoom 0 (zeros 4097) [] .answer ≡ refusal 2)
+    × (rowZoom 0 (zeros 1) [] .answer ≡ refusal 7) × (rowZoom 1 (zeros 1) [] .answer ≡ refusal 9)
+    × (rowValue 0 [] (position 1 1) ≡ refusal 1) × (rowValue 0 (zeros 4097) (position 4097 1) ≡ refusal 2) × (rowValue 0 (zeros 1) (position 1 1) ≡ refusal 7)
 unfolding rowTransform rowZoom rowValue
-rows-refused-first = (refl, refl, refl, refl, refl, refl, refl, refl, refl)
+rows-refused-first = (refl, refl, refl, refl, refl, refl, refl, refl, refl, refl, refl)
+
+-- of three samples at factor 2: a bad numerator, at a place on the data and past the end, and places past the end
+pub row-positions-refused : (rowValue 2 (zeros 3) (position 1 2) ≡ refusal 8) × (rowValue 2 (zeros 3) (position 3 2) ≡ refusal 8)
+    × (rowValue 2 (zeros 3) (position 2 1) ≡ refusal 14) × (rowValue 2 (zeros 3) (position 3 0) ≡ refusal 14)
+unfolding rowValue
+row-positions-refused = (refl, refl, refl, refl)
 
 pub pictures-refused-first : (pictureTransform (record { width = 2; height = 0; pitch = 1 }) [] [] [] .answer ≡ refusal 3)
     × (pictureTransform (record { width = 2; height = 2; pitch = 1 }) [] [] [] .answer ≡ refusal 4)
-    × (pictureTransform (sides 1 1) one [] [] .answer ≡ refusal 5) × (pictureTransform (sides 1 1) one [] (replicate 49 (pos 0)) .answer ≡ refusal 6)
-    × (pictureValue 0 (record { width = 2; height = 0; pitch = 3 }) [] off off ≡ refusal 3)
-    × (pictureValue 0 (record { width = 2; height = 2; pitch = 3 }) [] off off ≡ refusal 4)
-    × (pictureValue 0 (sides 1 1) one off off ≡ refusal 7) × (pictureValue 1 (sides 1 1) one off off ≡ refusal 8)
+    × (pictureTransform (sides 1 1) (zeros 1) [] [] .answer ≡ refusal 5) × (pictureTransform (sides 1 1) (zeros 1) [] (zeros 49) .answer ≡ refusal 6)
+    × (pictureValue 0 (record { width = 2; height = 0; pitch = 3 }) [] (position 2 1) (position 0 1) ≡ refusal 3)
+    × (pictureValue 0 (record { width = 2; height = 2; pitch = 3 }) [] (position 2 1) (position 2 1) ≡ refusal 4)
+    × (pictureValue 0 (sides 1 1) (zeros 1) (position 1 1) (position 1 1) ≡ refusal 7)
 unfolding pictureTransform pictureValue
-pictures-refused-first = (refl, refl, refl, refl, refl, refl, refl, refl)
+pictures-refused-first = (refl, refl, refl, refl, refl, refl, refl)
+
+-- of a picture three wide and two high at factor 2: a bad numerator along one side, with a place on the picture or past an edge along the other or the
+-- same, and places past the edges
+pub picture-positions-refused : (pictureValue 2 (sides 3 2) (zeros 6) (position 0 2) (position 0 0) ≡ refusal 8)
+    × (pictureValue 2 (sides 3 2) (zeros 6) (position 0 0) (position 0 2) ≡ refusal 8)
+    × (pictureValue 2 (sides 3 2) (zeros 6) (position 2 1) (position 0 2) ≡ refusal 8)
+    × (pictureValue 2 (sides 3 2) (zeros 6) (position 0 2) (position 1 1) ≡ refusal 8)
+    × (pictureValue 2 (sides 3 2) (zeros 6) (position 3 2) (position 0 0) ≡ refusal 8)
+    × (pictureValue 2 (sides 3 2) (zeros 6) (position 2 1) (position 0 0) ≡ refusal 14)
+    × (pictureValue 2 (sides 3 2) (zeros 6) (position 2 1) (position 1 1) ≡ refusal 14)
+    × (pictureValue 2 (sides 3 2) (zeros 6) (position 3 0) (position 2 0) ≡ refusal 14)
+    × (pictureValue 2 (sides 3 2) (zeros 6) (position 0 0) (position 1 1) ≡ refusal 15)
+    × (pictureValue 2 (sides 3 2) (zeros 6) (position 2 0) (position 2 0) ≡ refusal 15)
+unfolding pictureValue
+picture-positions-refused = (refl, refl, refl, refl, refl, refl, refl, refl, refl, refl)
 
 -- a value is not clamped: of the greatest and of the least coefficient it is far outside of 256 times the samples
 pub not-clamped : (valueInRow 1 (pos 2147483647 ∷ []) (record { k = 0; j = 0 }) ≡ pos 134217728)

@@ -10,5 +10,6 @@ pub mod Values
 pub mod Limits
 pub mod Refusals
 pub mod Outcomes
+pub mod OffData
 pub mod Negation
 pub mod Examples

@@ -1,12 +1,11 @@
 -- What each operation answers and what it leaves in every buffer, for every input: "Who can be refused". Assumes nothing.
-use mathlib.Core.Bool.{_||_}
 use mathlib.Core.List.{List, [], _∷_, _++_}
 use Prim.Native.Nat.{ℕ, max}
 use lib.IntN.{ℤ, pos}
 use lib.ListN.{length, drop, replicate}
 use Rattle.bspline.specs.PictureLayout.{Shape, area}
 use Rattle.bspline.specs.Limits.{longestRow, workWords}
-use Rattle.bspline.specs.Refusals.{Answer, count, value, refusal, Test, refusal-1, refusal-2, refusal-3, refusal-4-pixels, refusal-4-coefficients, refusal-5, refusal-6, refusal-7, refusal-8, refusal-9, offData, judged}
+use Rattle.bspline.specs.Refusals.{Answer, count, value, refusal, Test, refusal-1, refusal-2, refusal-3, refusal-4-pixels, refusal-4-coefficients, refusal-5, refusal-6, refusal-7, refusal-8, refusal-9, refusal-14, refusal-15, judged}
 use Rattle.bspline.specs.Transforms.{rowCoefficients, pictureCoefficients}
 use Rattle.bspline.specs.Values.{Position, valueInRow, valueInPicture, zoomCount, zoomValues}
 
@@ -59,17 +58,19 @@ rowZoom m c buffer =
     (λ k. record { answer = refusal k; values = buffer })
     (record { answer = count (zoomCount m (length c)); values = overwrite (zoomValues m c) buffer })
 
--- ---- the two values: an answer alone, since they write nothing. Row value tests 1, 2, 7, 8
+-- ---- the two values: an answer alone, since they write nothing. Row value tests 1, 2, 7, 8, 14
 abbrev pub rowValueTests : ℕ → List ℤ → Position → List Test
-rowValueTests m c p = refusal-1 (length c) ∷ refusal-2 longestRow (length c) ∷ refusal-7 m ∷ refusal-8 (offData m (length c) p) ∷ []
+rowValueTests m c p = refusal-1 (length c) ∷ refusal-2 longestRow (length c) ∷ refusal-7 m ∷ refusal-8 m p ∷ refusal-14 (length c) p ∷ []
 
 unfoldable pub rowValue : ℕ → List ℤ → Position → Answer
 rowValue m c p = judged (rowValueTests m c p) refusal (value (valueInRow m c p))
 
--- picture value: 3, 4, 7, 8, the last on each axis
+-- picture value: 3, 4, 7, and of the position 8 along both sides, 14, 15
+abbrev pub positionTests : ℕ → Shape → Position → Position → List Test
+positionTests m d px py = refusal-8 m px ∷ refusal-8 m py ∷ refusal-14 (d .width) px ∷ refusal-15 (d .height) py ∷ []
+
 abbrev pub pictureValueTests : ℕ → Shape → List ℤ → Position → Position → List Test
-pictureValueTests m d c px py =
-    refusal-3 d ∷ refusal-4-coefficients d c ∷ refusal-7 m ∷ refusal-8 (offData m (d .width) px || offData m (d .height) py) ∷ []
+pictureValueTests m d c px py = refusal-3 d ∷ refusal-4-coefficients d c ∷ refusal-7 m ∷ positionTests m d px py
 
 unfoldable pub pictureValue : ℕ → Shape → List ℤ → Position → Position → Answer
 pictureValue m d c px py = judged (pictureValueTests m d c px py) refusal (value (valueInPicture m d c px py))

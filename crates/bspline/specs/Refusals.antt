@@ -69,16 +69,28 @@ refusal-6 n buffer = 6 when ltb (length buffer) n
 abbrev pub refusal-7 : ℕ → Test
 refusal-7 m = 7 when outside greatestFactor m
 
--- a position off the n data: j not below m, or k above n - 1, or k = n - 1 with j above 0
-abbrev pub offData : ℕ → ℕ → Position → Bool
-offData m n p = leb m (p .j) || ltb (n - 1) (p .k) || (eqb (p .k) (n - 1) && ltb 0 (p .j))
+-- a numerator that is not below the factor
+abbrev pub badNumerator : ℕ → Position → Bool
+badNumerator m p = leb m (p .j)
 
-abbrev pub refusal-8 : Bool → Test
-refusal-8 off = 8 when off
+abbrev pub refusal-8 : ℕ → Position → Test
+refusal-8 m p = 8 when badNumerator m p
 
 -- a value buffer shorter than the n numbers to be written
 abbrev pub refusal-9 : ℕ → List ℤ → Test
 refusal-9 n buffer = 9 when ltb (length buffer) n
+
+-- a place past the end of n data: k above n - 1, or k = n - 1 with j above 0
+abbrev pub pastEnd : ℕ → Position → Bool
+pastEnd n p = ltb (n - 1) (p .k) || (eqb (p .k) (n - 1) && ltb 0 (p .j))
+
+-- a place past the end of a row of n, or past the right edge of a picture n wide
+abbrev pub refusal-14 : ℕ → Position → Test
+refusal-14 n p = 14 when pastEnd n p
+
+-- a place past the bottom edge of a picture n high
+abbrev pub refusal-15 : ℕ → Position → Test
+refusal-15 n p = 15 when pastEnd n p
 
 -- the first test whose condition holds refuses; where none does the call is accepted
 abbrev pub judged : {A : Type 0} → List Test → (ℕ → A) → A → A

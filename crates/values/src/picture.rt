@@ -1,10 +1,12 @@
 // Picture value.
 ghost use mathlib.Core.Path.{_≡_};
 ghost use lib.ListN.{length};
-ghost use Rattle.bspline.specs.Outcomes.{pictureValue};
+ghost use Rattle.bspline.specs.Outcomes.{pictureValue, positionTests};
 ghost use Rattle.bspline.specs.PictureLayout.{area, packed};
+ghost use Rattle.bspline.specs.Refusals.{judged, refusal, value};
 ghost use Rattle.bspline.specs.Values.{valueInPicture};
 ghost use Rattle.answers.specs.Answers.{described, placed, valued};
+ghost use Rattle.answers.specs.Limits.{Factor, GoodSides};
 ghost use Rattle.answers.specs.Positions.{OnPicture};
 use answers::Position;
 use answers::Refusal;
@@ -12,8 +14,9 @@ use answers::Shape;
 use answers::Valued;
 use answers::checks::bad_coefficients;
 use answers::checks::bad_factor;
+use answers::checks::bad_numerator;
 use answers::checks::bad_sides;
-use answers::checks::off_data;
+use answers::checks::past_end;
 use rounding::round_narrow;
 use sums::pictures::row_sums;
 use sums::rows::dot;
@@ -31,12 +34,31 @@ fn value_at(c: &[i32], shape: Shape, x: Position, y: Position, m: usize) -> i32
     round_narrow(sum, picture_divisor(m))
 }
 
+// The picture value of closely packed coefficients, or the refusal of its position.
+fn value_on(c: &[i32], shape: Shape, x: Position, y: Position, m: usize) -> Valued
+    requires { ⌜ GoodSides (described shape) × Factor m × (length (now c) ≡ area (described shape)) ⌝ }
+    ensures { λ r. ⌜ valued r ≡ judged (positionTests m (described shape) (placed x) (placed y)) refusal
+        (value (valueInPicture m (packed (described shape)) (now (c .entry)) (placed x) (placed y))) ⌝ }
+{
+    if bad_numerator(m, x) {
+        return Valued::Refused(Refusal::BadNumerator);
+    }
+    if bad_numerator(m, y) {
+        return Valued::Refused(Refusal::BadNumerator);
+    }
+    if past_end(shape.width, x) {
+        return Valued::Refused(Refusal::PastEnd);
+    }
+    if past_end(shape.height, y) {
+        return Valued::Refused(Refusal::PastBottom);
+    }
+    Valued::Value(value_at(c, shape, x, y, m))
+}
+
 // Picture value: the spline of w × h coefficients, closely packed, at a position along each side, in units of 1/256 of a count.
 pub fn value(coefficients: &[i32], shape: Shape, x: Position, y: Position, m: usize) -> Valued
     ensures { λ r. ⌜ valued r ≡ pictureValue m (described shape) (now (coefficients .entry)) (placed x) (placed y) ⌝ }
 {
-    let width = shape.width;
-    let height = shape.height;
     if bad_sides(shape) {
         return Valued::Refused(Refusal::BadSide);
     }
@@ -46,11 +68,5 @@ pub fn value(coefficients: &[i32], shape: Shape, x: Position, y: Position, m: us
     if bad_factor(m) {
         return Valued::Refused(Refusal::BadFactor);
     }
-    if off_data(m, width, x) {
-        return Valued::Refused(Refusal::OffData);
-    }
-    if off_data(m, height, y) {
-        return Valued::Refused(Refusal::OffData);
-    }
-    Valued::Value(value_at(coefficients, shape, x, y, m))
+    value_on(coefficients, shape, x, y, m)
 }

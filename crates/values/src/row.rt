@@ -9,7 +9,8 @@ use answers::Position;
 use answers::Refusal;
 use answers::Valued;
 use answers::checks::bad_factor;
-use answers::checks::off_data;
+use answers::checks::bad_numerator;
+use answers::checks::past_end;
 use answers::limits::LONGEST_ROW;
 use rounding::round_narrow;
 use sums::rows::dot;
@@ -40,8 +41,11 @@ pub fn value(coefficients: &[i32], position: Position, m: usize) -> Valued
     if bad_factor(m) {
         return Valued::Refused(Refusal::BadFactor);
     }
-    if off_data(m, n, position) {
-        return Valued::Refused(Refusal::OffData);
+    if bad_numerator(m, position) {
+        return Valued::Refused(Refusal::BadNumerator);
+    }
+    if past_end(n, position) {
+        return Valued::Refused(Refusal::PastEnd);
     }
     Valued::Value(value_at(coefficients, position.k, position.j, m))
 }

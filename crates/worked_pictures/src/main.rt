@@ -91,6 +91,7 @@ fn main() {
     let start = Position { k: 0, j: 0 };
     let second = Position { k: 1, j: 0 };
     let past_second = Position { k: 1, j: 1 };
+    let past_third = Position { k: 2, j: 1 };
     let two_past_start = Position { k: 0, j: 2 };
     value(7, 7, past_second, two_past_start, 3);
     value(-32768, -32768, past_second, two_past_start, 3);
@@ -99,8 +100,12 @@ fn main() {
     value(0, 1, start, start, 0);
     value(0, 1, start, start, GREATEST_FACTOR + 1);
     value(0, 1, Position { k: 2, j: 0 }, second, 2);
-    value(0, 1, Position { k: 2, j: 1 }, start, 2);
+    value(0, 1, past_third, start, 2);
     value(0, 1, start, past_second, 2);
+    value(0, 1, past_third, past_second, 2);
+    value(0, 1, two_past_start, start, 2);
+    value(0, 1, start, two_past_start, 2);
+    value(0, 1, past_third, two_past_start, 2);
     band(9, 3, second, start, 4);
     band(-32768, 3, past_second, start, 3);
     band(9, 5, second, start, 4);

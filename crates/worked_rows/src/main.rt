@@ -96,6 +96,9 @@ fn main() {
     value(Position { k: 2, j: 0 }, 2);
     value(Position { k: 1, j: 1 }, 2);
     value(Position { k: 2, j: 1 }, 2);
+    value(Position { k: 3, j: 0 }, 2);
+    value(Position { k: 1, j: 2 }, 2);
+    value(Position { k: 3, j: 2 }, 2);
     transform(0, MUCH_WORK);
     transform(1, MUCH_WORK);
     transform(LONGEST_ROW, MUCH_WORK);

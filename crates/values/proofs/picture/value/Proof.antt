@@ -1,21 +1,17 @@
--- `values::picture::value` meets its contract: each refusal is the first test that holds, and where none does the position is on the picture.
+-- `values::picture::value` meets its contract: each refusal is the first test that holds, and where none does the tests of the position decide.
 -- Assumes nothing.
 use mathlib.Core.Bool.{false}
 use mathlib.Core.Path.{_≡_, sym, ap, _∙_}
-use borrow.Author.Needs.{needs, sfits-of}
+use borrow.Author.Needs.{needs}
 use lib.ListN.{length}
-use mir.Facts.{toZ-ofZ}
-use mir.Syntax.{w32}
-use mir.Val.{SFits}
 use Rattle.bspline.specs.Limits.{greatestFactor}
-use Rattle.bspline.specs.Outcomes.{pictureValue}
+use Rattle.bspline.specs.Outcomes.{positionTests, pictureValue}
 use Rattle.bspline.specs.PictureLayout.{Shape}
-use Rattle.bspline.specs.Refusals.{value, outside, badSides, badCoefficients, offData}
+use Rattle.bspline.specs.Refusals.{value, refusal, outside, badSides, badCoefficients, judged}
 use Rattle.bspline.specs.Values.{valueInPicture}
 use Rattle.bspline.proofs.Refusals.{coefficients-packed}
 use Rattle.answers.specs.Answers.{described, placed}
 use Rattle.answers.specs.Limits.{GoodSides}
-use Rattle.answers.proofs.OnData.{on-data}
 use Rattle.answers.proofs.WithinLimits.{factor, good-sides}
 use Rattle.values.proofs.picture.value.Statement.{statement}
 use Rattle.values.proofs.picture.value.Tie as tie
@@ -74,65 +70,19 @@ module _ (c : tie.Else3) where
   good-factor : outside greatestFactor (start whole .args .m) ≡ false
   good-factor = sym (c .before .bad-factor .ensures) ∙ c .if3 .left
 
-off-data-requires : tie.Need-off-data-requires
-off-data-requires c κs = good (whole c) .wide
+value-on-requires : tie.Need-value-on-requires
+value-on-requires c κs = (good (whole c), factor _ (good-factor c), coefficients-packed (d (whole c)) _ (fit (numbered c)) .1)
 
 returns-4 : tie.Need-returns-4
 unfolding pictureValue
 returns-4 c =
-    let f = c .before .before in
-    simp (sides (whole f), fit (numbered f), good-factor f, sym (c .before .off-data .ensures) ∙ c .if4 .taken)
-
-off-data-requires-2 : tie.Need-off-data-requires-2
-off-data-requires-2 c κs = good (whole (c .before .before)) .high
-
--- nor is the position along the width
-module _ (c : tie.Else4) where
-  abbrev factored : tie.Else3
-  factored = c .before .before
-
-  on-width : offData (start (whole factored) .args .m) (d (whole factored) .width) (placed (start (whole factored) .args .x)) ≡ false
-  on-width = sym (c .before .off-data .ensures) ∙ c .if4 .left
-
-returns-5 : tie.Need-returns-5
-unfolding pictureValue
-returns-5 c =
-    let x = c .before .before in
-    let f = factored x in
-    simp (sides (whole f), fit (numbered f), good-factor f, on-width x, sym (c .before .off-data2 .ensures) ∙ c .if5 .taken)
-
--- nor is that along the height
-module _ (c : tie.Else5) where
-  abbrev wide : tie.Else4
-  wide = c .before .before
-
-  on-height :
-      let s = whole (factored wide) in offData (start s .args .m) (d s .height) (placed (start s .args .y)) ≡ false
-  on-height = sym (c .before .off-data2 .ensures) ∙ c .if5 .left
-
-value-at-requires : tie.Need-value-at-requires
-value-at-requires c κs =
-    let f = factored (wide c) in
-    let g = good (whole f) in (
-      record {
-        good = g;
-        factor = factor _ (good-factor f);
-        along = on-data _ _ _ (g .wide) (on-width (wide c));
-        down = on-data _ _ _ (g .high) (on-height c);
-      },
-      coefficients-packed (d (whole f)) _ (fit (numbered f)) .1,
-    )
-
-returns-6 : tie.Need-returns-6
-unfolding pictureValue
-returns-6 c =
-    let e = c .before in
-    let f = factored (wide e) in
-    let r : SFits w32 (c .value-at .result) = sfits-of (c .value-at .ok) in
+    let f = c .before in
     let a = start (whole f) .args in
-    simp (sides (whole f), fit (numbered f), good-factor f, on-width (wide e), on-height e)
-    (ap value (toZ-ofZ r ∙ c .value-at .ensures
-    ∙ ap (λ s. valueInPicture (a .m) s (a .coefficients .now) (placed (a .x)) (placed (a .y))) (sym (coefficients-packed (d (whole f)) _ (fit (numbered f)) .0))))
+    simp (sides (whole f), fit (numbered f), good-factor f)
+    (c .value-on .ensures
+    ∙ ap (λ s. judged (positionTests (a .m) (d (whole f)) (placed (a .x)) (placed (a .y))) refusal
+    (value (valueInPicture (a .m) s (a .coefficients .now) (placed (a .x)) (placed (a .y)))))
+    (sym (coefficients-packed (d (whole f)) _ (fit (numbered f)) .0)))
 
 pub value-spec : {M : Type 1} → statement M
 value-spec =
@@ -144,9 +94,5 @@ value-spec =
     returns-2
     bad-factor-requires
     returns-3
-    off-data-requires
-    returns-4
-    off-data-requires-2
-    returns-5
-    value-at-requires
-    returns-6)
+    value-on-requires
+    returns-4)

@@ -50,11 +50,11 @@ row-sums-requires c κs =
         wide = p .good .narrow;
         high = p .good .low;
         above = p .good .high;
-        inside = p .along .inside;
+        inside = p .along .index;
         count = c .before .pre .1;
         light = light c;
       },
-      p .down .inside,
+      p .down .index,
     )
 
 weights-at-requires-2 : tie.Need-weights-at-requires-2

@@ -12,9 +12,9 @@ use mir.Syntax.{w32}
 use mir.Val.{SFits}
 use Rattle.bspline.specs.Limits.{longestRow, greatestFactor}
 use Rattle.bspline.specs.Outcomes.{rowValue}
-use Rattle.bspline.specs.Refusals.{value, outside, offData}
+use Rattle.bspline.specs.Refusals.{value, outside, badNumerator, pastEnd}
 use Rattle.answers.specs.Answers.{placed}
-use Rattle.answers.proofs.OnData.{on-data}
+use Rattle.answers.proofs.Inside.{inside}
 use Rattle.answers.proofs.WithinLimits.{factor}
 use Rattle.values.proofs.row.value.Statement.{statement}
 use Rattle.values.proofs.row.value.Tie as tie
@@ -56,38 +56,57 @@ module _ (c : tie.Else3) where
   good-factor : outside greatestFactor (start row .args .m) ≡ false
   good-factor = sym (c .before .bad-factor .ensures) ∙ c .if3 .left
 
-off-data-requires : tie.Need-off-data-requires
-off-data-requires c κs = search needs
+bad-numerator-requires : tie.Need-bad-numerator-requires
+bad-numerator-requires c κs = search needs
 
 returns-4 : tie.Need-returns-4
 unfolding rowValue
 returns-4 c =
     let f = c .before .before in
-    simp (some (row f), short (row f), good-factor f, sym (c .before .off-data .ensures) ∙ c .if4 .taken)
+    simp (some (row f), short (row f), good-factor f, sym (c .before .bad-numerator .ensures) ∙ c .if4 .taken)
 
--- nor is the position
+-- nor is the numerator
 module _ (c : tie.Else4) where
   abbrev factored : tie.Else3
   factored = c .before .before
 
-  on-row : offData (start (row factored) .args .m) (n (row factored)) (placed (start (row factored) .args .position)) ≡ false
-  on-row = sym (c .before .off-data .ensures) ∙ c .if4 .left
+  good-numerator : badNumerator (start (row factored) .args .m) (placed (start (row factored) .args .position)) ≡ false
+  good-numerator = sym (c .before .bad-numerator .ensures) ∙ c .if4 .left
 
-value-at-requires : tie.Need-value-at-requires
-value-at-requires c κs =
-    record {
-      short = row (factored c) .if2 .left;
-      factor = factor _ (good-factor (factored c));
-      on = on-data _ _ _ (omega arith) (on-row c);
-    }
+past-end-requires : tie.Need-past-end-requires
+past-end-requires c κs = search needs
 
 returns-5 : tie.Need-returns-5
 unfolding rowValue
 returns-5 c =
+    let g = c .before .before in
+    let f = factored g in
+    simp (some (row f), short (row f), good-factor f, good-numerator g, sym (c .before .past-end .ensures) ∙ c .if5 .taken)
+
+-- nor is the place
+module _ (c : tie.Else5) where
+  abbrev below : tie.Else4
+  below = c .before .before
+
+  on-row : pastEnd (n (row (factored below))) (placed (start (row (factored below)) .args .position)) ≡ false
+  on-row = sym (c .before .past-end .ensures) ∙ c .if5 .left
+
+value-at-requires : tie.Need-value-at-requires
+value-at-requires c κs =
+    let f = factored (below c) in
+    record {
+      short = row f .if2 .left;
+      factor = factor _ (good-factor f);
+      on = inside _ _ _ (omega arith) (good-numerator (below c)) (on-row c);
+    }
+
+returns-6 : tie.Need-returns-6
+unfolding rowValue
+returns-6 c =
     let e = c .before in
-    let f = factored e in
+    let f = factored (below e) in
     let r : SFits w32 (c .value-at .result) = sfits-of (c .value-at .ok) in
-    simp (some (row f), short (row f), good-factor f, on-row e) (ap value (toZ-ofZ r ∙ c .value-at .ensures))
+    simp (some (row f), short (row f), good-factor f, good-numerator (below e), on-row e) (ap value (toZ-ofZ r ∙ c .value-at .ensures))
 
 pub value-spec : {M : Type 1} → statement M
 value-spec =
@@ -97,7 +116,9 @@ value-spec =
     returns-2
     bad-factor-requires
     returns-3
-    off-data-requires
+    bad-numerator-requires
     returns-4
+    past-end-requires
+    returns-5
     value-at-requires
-    returns-5)
+    returns-6)
