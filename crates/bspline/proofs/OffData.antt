@@ -14,11 +14,11 @@ use lib.IntN.{ℤ}
 use lib.ListN.{length}
 use Rattle.bspline.specs.Limits.{longestRow}
 use Rattle.bspline.specs.OffData.{offData, asOne, undivided}
-use Rattle.bspline.specs.Outcomes.{rowValueTests, rowValue, pictureValueTests, pictureValue}
+use Rattle.bspline.specs.Outcomes.{rowValueTests, rowValue, positionTests, pictureValueTests, pictureValue}
 use Rattle.bspline.specs.PictureLayout.{Shape}
 use Rattle.bspline.specs.Refusals.{value, refusal, Test, _when_, badNumerator, pastEnd, refusal-1, refusal-2, refusal-3, refusal-4-coefficients, refusal-7, refusal-8, refusal-14, refusal-15, judged}
 use Rattle.bspline.specs.Values.{Position, valueInRow, valueInPicture}
-use Rattle.bspline.proofs.Refusals.{Passed, judged-passed, judged-refused, judged-after, judged-joined}
+use Rattle.bspline.proofs.Refusals.{Passed, judged-skipped, judged-passed, judged-refused, judged-after, judged-joined}
 
 -- ---- the conditions
 -- of a row, the condition of 8 or of 14 holds exactly if the position is off the data
@@ -114,11 +114,12 @@ pub row-value-number : (m : ℕ) (c : List ℤ) (p : Position) → Passed (refus
 unfolding rowValue
 row-value-number m c p t =
     let first = refusal-1 (length c) ∷ refusal-2 longestRow (length c) ∷ refusal-7 m ∷ [] in
+    let tests = refusal-8 m p ∷ refusal-14 (length c) p ∷ [] in
     let result = value (valueInRow m c p) in
-    let good : p .j < m → Passed (first ++ refusal-8 m p ∷ []) = λ j. (t .0, (t .1 .0, (t .1 .1 .0, (lt-leb m (p .j) j, tt)))) in (
-      λ j. judged-refused first 8 (badNumerator m p) (refusal-14 (length c) p ∷ []) refusal result t (le-leb m (p .j) j),
-      λ j k. judged-refused (first ++ refusal-8 m p ∷ []) 14 (pastEnd (length c) p) [] refusal result (good j) (past m (length c) p j k),
-      λ j k. judged-passed (rowValueTests m c p) refusal result (t .0, (t .1 .0, (t .1 .1 .0, (lt-leb m (p .j) j, (not-past m (length c) p j k, tt))))),
+    let left = judged-skipped first tests refusal result t in (
+      λ j. left ∙ judged-refused [] 8 (badNumerator m p) (refusal-14 (length c) p ∷ []) refusal result tt (le-leb m (p .j) j),
+      λ j k. left ∙ judged-refused (refusal-8 m p ∷ []) 14 (pastEnd (length c) p) [] refusal result (lt-leb m (p .j) j, tt) (past m (length c) p j k),
+      λ j k. left ∙ judged-passed tests refusal result (lt-leb m (p .j) j, (not-past m (length c) p j k, tt)),
     )
 
 -- picture value 8 if either numerator is not below m; if both are, 14 by the place along the width, else 15 by that along the height, and else the value
@@ -131,29 +132,21 @@ pub picture-value-number : (m : ℕ) (d : Shape) (c : List ℤ) (px py : Positio
     pictureValue m d c px py ≡ value (valueInPicture m d c px py))
 unfolding pictureValue
 picture-value-number m d c px py t =
-    let first = refusal-3 d ∷ refusal-4-coefficients d c ∷ refusal-7 m ∷ [] in
-    let edges = refusal-14 (d .width) px ∷ refusal-15 (d .height) py ∷ [] in
-    let numerators = first ++ refusal-8 m px ∷ refusal-8 m py ∷ [] in
     let x = badNumerator m px in
     let y = badNumerator m py in
+    let numerators = refusal-8 m px ∷ refusal-8 m py ∷ [] in
+    let right = refusal-14 (d .width) px in
+    let bottom = refusal-15 (d .height) py in
     let result = value (valueInPicture m d c px py) in
+    let left = judged-skipped (refusal-3 d ∷ refusal-4-coefficients d c ∷ refusal-7 m ∷ []) (positionTests m d px py) refusal result t in
     let eight : (x || y) ≡ true → judged (pictureValueTests m d c px py) refusal result ≡ refusal 8 =
-    λ e. judged-after first ((8 when x) ∷ (8 when y) ∷ edges) ((8 when (x || y)) ∷ edges) refusal result (judged-joined 8 x y edges refusal result)
-    ∙ judged-refused first 8 (x || y) edges refusal result t e in
-    let good : px .j < m → py .j < m → Passed numerators =
-    λ jx jy. (t .0, (t .1 .0, (t .1 .1 .0, (lt-leb m (px .j) jx, (lt-leb m (py .j) jy, tt))))) in (
+    λ e. left ∙ judged-joined 8 x y (right ∷ bottom ∷ []) refusal result ∙ judged-refused [] 8 (x || y) (right ∷ bottom ∷ []) refusal result tt e in (
       λ j. eight (ap (λ (b : Bool). b || y) (le-leb m (px .j) j)),
       λ j. eight (ap (λ (b : Bool). x || b) (le-leb m (py .j) j) ∙ or-true x),
-      λ jx jy k. judged-refused numerators 14 (pastEnd (d .width) px) (refusal-15 (d .height) py ∷ []) refusal result (good jx jy)
-          (past m (d .width) px jx k),
-      λ jx jy kx ky. judged-refused (numerators ++ refusal-14 (d .width) px ∷ []) 15 (pastEnd (d .height) py) [] refusal result
-          (t .0, (t .1 .0, (t .1 .1 .0, (lt-leb m (px .j) jx, (lt-leb m (py .j) jy, (not-past m (d .width) px jx kx, tt))))))
-          (past m (d .height) py jy ky),
-      λ jx jy kx ky. judged-passed (pictureValueTests m d c px py) refusal result (
-        t .0,
-        (
-          t .1 .0,
-          (t .1 .1 .0, (lt-leb m (px .j) jx, (lt-leb m (py .j) jy, (not-past m (d .width) px jx kx, (not-past m (d .height) py jy ky, tt))))),
-        ),
-      ),
+      λ i j k. left ∙ judged-refused numerators 14 (pastEnd (d .width) px) (bottom ∷ []) refusal result
+          (lt-leb m (px .j) i, (lt-leb m (py .j) j, tt)) (past m (d .width) px i k),
+      λ i j k l. left ∙ judged-refused (numerators ++ right ∷ []) 15 (pastEnd (d .height) py) [] refusal result
+          (lt-leb m (px .j) i, (lt-leb m (py .j) j, (not-past m (d .width) px i k, tt))) (past m (d .height) py j l),
+      λ i j k l. left ∙ judged-passed (positionTests m d px py) refusal result
+          (lt-leb m (px .j) i, (lt-leb m (py .j) j, (not-past m (d .width) px i k, (not-past m (d .height) py j l, tt)))),
     )

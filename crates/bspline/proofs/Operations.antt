@@ -7,7 +7,7 @@ use mathlib.Core.Path.{_≡_, refl, sym, ap, _∙_}
 use Prim.Native.Nat.{ℕ, max, _+_, _-_, _*_, _≤_, _<_}
 use native.Mathlib.Nat.{add-zero, mod-lt, mul-le-mul-right}
 use native.Mathlib.Omega.{arith}
-use borrow.Author.Tests.{ltb-false, eqb-false, ne-eqb, eq-eqb, lt-leb, le-ltb}
+use borrow.Author.Tests.{ltb-false, eqb-false, ne-eqb, eq-eqb, le-ltb}
 use lib.IntN.{ℤ, pos, _*ℤ_}
 use lib.ListN.{length, take, drop, length-append}
 use lib.Seq.{getD-take, take-at}
@@ -20,11 +20,16 @@ use Rattle.bspline.specs.Refusals.{Answer, count, value, refusal, Test, 
 use Rattle.bspline.specs.Transforms.{rowCoefficients, pictureCoefficients}
 use Rattle.bspline.specs.Values.{Position, zoomPosition, zoomCount, zoomValues, valueInRow, valueInPicture, RowValueAccurate, PictureValueAccurate}
 use Rattle.bspline.proofs.Lists.{tabulate-from-zero}
+use Rattle.bspline.proofs.OffData.{row-value-number, picture-value-number}
 use Rattle.bspline.proofs.PictureLayout.{place-below}
-use Rattle.bspline.proofs.Refusals.{Passed, judged-passed, judged-accepted, one-to, inside, sides-within, numerator-below, sample-inside}
+use Rattle.bspline.proofs.Refusals.{Passed, judged-accepted, one-to, inside, sides-within, numerator-below}
 use Rattle.bspline.proofs.Transforms.{row-length, picture-length}
 use Rattle.bspline.proofs.Zoom.{position-at, zoom-length}
 use Rattle.bspline.proofs.Values.{row-value-accurate, sample-returns, picture-value-accurate, pixel-returns}
+
+-- a sample's place, in steps of the factor, is not behind the last one's
+sample-within : (m n k : ℕ) → k < n → k * m + 0 ≤ (n - 1) * m
+sample-within m n k h = let l : k ≤ n - 1 = omega arith in omega (arith, mul-le-mul-right m l)
 
 -- ---- what an accepted call leaves
 -- a transform that answers a count n has made so many numbers, no test's condition holds, and the numbers begin the buffer
@@ -117,16 +122,12 @@ module _ (s C : List ℤ) (n : ℕ) (taken : RowTaken s C n) where
 
   -- and at a sample it answers 256 times the sample
   pub row-value-returns : (m k : ℕ) → 0 < m → m ≤ greatestFactor → k < n → rowValue m (take n C) (record { k = k; j = 0 }) ≡ value (pos 256 *ℤ at s k)
-  unfolding rowValue
   row-value-returns m k some small below =
       let l = take n C in
-      judged-passed (rowValueTests m l (record { k = k; j = 0 })) refusal (value (valueInRow m l (record { k = k; j = 0 }))) (
+      row-value-number m l (record { k = k; j = 0 }) (
         ne-eqb (length l) 0 (λ e. omega (arith, long, taken .some, taken .count)),
-        (
-          le-ltb longestRow (length l) (omega (arith, long, taken .short, taken .count)),
-          (inside greatestFactor m some small, (lt-leb m 0 some, (sample-inside (length l) k (omega (arith, long, taken .count)), tt))),
-        ),
-      )
+        (le-ltb longestRow (length l) (omega (arith, long, taken .short, taken .count)), (inside greatestFactor m some small, tt)),
+      ) .2 some (sample-within m (length l) k (omega (arith, long, taken .count)))
       ∙ ap value (sample-returns m some s l long near k (omega (arith, taken .count)))
 
   -- what row zoom leaves where it answers a count q: the values at the first q positions begin the buffer
@@ -162,14 +163,11 @@ module _ (s C : List ℤ) (n : ℕ) (taken : RowTaken s C n) where
       (k : ℕ) → k < n → at vs (k * m) ≡ pos 256 *ℤ at s k
   row-zoom-returns m buffer vs q e k h =
       let t = listed m buffer vs q e in
-      let below : k * m + 0 < q = omega (arith, t .count, mul-le-mul-right m (pred-le h)) in
+      let below : k * m + 0 < q = omega (arith, t .count, sample-within m n k h) in
       ap (at vs) (sym (add-zero (k * m)))
       ∙ t .values (k * m + 0) below
       ∙ ap (valueInRow m (take n C)) (position-at m k 0 (t .factor .0))
       ∙ sample-returns m (t .factor .0) s (take n C) long near k (omega (arith, taken .count))
-    where
-      pred-le : {k n : ℕ} → k < n → k ≤ n - 1
-      pred-le h = omega arith
 
 -- ---- pictures
 -- what the transform leaves where it answers a count
@@ -229,17 +227,9 @@ module _ (d : Shape) (p C : List ℤ) (n : ℕ) (taken : PictureTaken d p C n) w
   -- and at a pixel it answers 256 times the pixel
   pub picture-value-returns : (m x y : ℕ) → 0 < m → m ≤ greatestFactor → x < d .width → y < d .height →
       pictureValue m (packed d) (take n C) (record { k = x; j = 0 }) (record { k = y; j = 0 }) ≡ value (pos 256 *ℤ pixel d p x y)
-  unfolding pictureValue
   picture-value-returns m x y some small left above =
-      judged-passed (pictureValueTests m (packed d) (take n C) (record { k = x; j = 0 }) (record { k = y; j = 0 })) refusal
-      (value (valueInPicture m (packed d) (take n C) (record { k = x; j = 0 }) (record { k = y; j = 0 }))) (
+      picture-value-number m (packed d) (take n C) (record { k = x; j = 0 }) (record { k = y; j = 0 }) (
         taken .sides,
-        (
-          rw (eq-eqb (d .width) (d .width) refl, eq-eqb (length (take n C)) (area d) full) refl,
-          (
-            inside greatestFactor m some small,
-            (lt-leb m 0 some, (lt-leb m 0 some, (sample-inside (d .width) x left, (sample-inside (d .height) y above, tt)))),
-          ),
-        ),
-      )
+        (rw (eq-eqb (d .width) (d .width) refl, eq-eqb (length (take n C)) (area d) full) refl, (inside greatestFactor m some small, tt)),
+      ) .4 some some (sample-within m (d .width) x left) (sample-within m (d .height) y above)
       ∙ ap value (pixel-returns m some d p (take n C) close x y left above)

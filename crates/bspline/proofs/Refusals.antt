@@ -1,7 +1,7 @@
 -- What is known where the test of a refusal fails, and of an outcome that tests decide. Assumes nothing.
-use mathlib.Core.Bool.{Bool, true, false, not, _||_, _&&_, and-false}
-use mathlib.Core.List.{List, [], _∷_, _++_}
-use mathlib.Core.Path.{_≡_, refl, sym, ap}
+use mathlib.Core.Bool.{Bool, true, false, not, _||_, _&&_}
+use mathlib.Core.List.{List, [], _∷_, _++_, append-nil}
+use mathlib.Core.Path.{_≡_, refl, sym, ap, _∙_}
 use mathlib.Mathlib.Data.Bool.Basic.{or-eq-false-eq-eq-false-and-eq-false}
 use Prim.Native.Nat.{ℕ, _-_, _≤_, _<_}
 use native.Mathlib.Omega.{arith}
@@ -60,18 +60,22 @@ judged-map h [] refuse result = refl
 judged-map h ((k when true) ∷ tests) refuse result = refl
 judged-map h ((k when false) ∷ tests) refuse result = judged-map h tests refuse result
 
--- where no condition holds the call is accepted
-pub judged-passed : {A : Type 0} (tests : List Test) (refuse : ℕ → A) (result : A) → Passed tests → judged tests refuse result ≡ result
-judged-passed [] refuse result p = refl
-judged-passed ((k when true) ∷ tests) refuse result p = let z : _≡_ {A = ℕ} 0 1 = cc (p .0) in absurd (omega arith)
-judged-passed ((k when false) ∷ tests) refuse result p = judged-passed tests refuse result (p .1)
+-- tests none of whose conditions holds leave it to those after them
+pub judged-skipped : {A : Type 0} (before tests : List Test) (refuse : ℕ → A) (result : A) →
+    Passed before → judged (before ++ tests) refuse result ≡ judged tests refuse result
+judged-skipped [] tests refuse result p = refl
+judged-skipped ((k when true) ∷ before) tests refuse result p = let z : _≡_ {A = ℕ} 0 1 = cc (p .0) in absurd (omega arith)
+judged-skipped ((k when false) ∷ before) tests refuse result p = judged-skipped before tests refuse result (p .1)
 
--- where none of the first tests' conditions holds, and the next one's does, that one refuses
+-- so where no condition holds the call is accepted
+pub judged-passed : {A : Type 0} (tests : List Test) (refuse : ℕ → A) (result : A) → Passed tests → judged tests refuse result ≡ result
+judged-passed tests refuse result p = ap (λ l. judged l refuse result) (sym (append-nil tests)) ∙ judged-skipped tests [] refuse result p
+
+-- and the first whose condition holds refuses
 pub judged-refused : {A : Type 0} (before : List Test) (k : ℕ) (c : Bool) (tests : List Test) (refuse : ℕ → A) (result : A) →
     Passed before → c ≡ true → judged (before ++ (k when c) ∷ tests) refuse result ≡ refuse k
-judged-refused [] k c tests refuse result p e = ap (λ (b : Bool). judged ((k when b) ∷ tests) refuse result) e
-judged-refused ((l when true) ∷ before) k c tests refuse result p e = let z : _≡_ {A = ℕ} 0 1 = cc (p .0) in absurd (omega arith)
-judged-refused ((l when false) ∷ before) k c tests refuse result p e = judged-refused before k c tests refuse result (p .1) e
+judged-refused before k c tests refuse result p e =
+    judged-skipped before ((k when c) ∷ tests) refuse result p ∙ ap (λ (b : Bool). judged ((k when b) ∷ tests) refuse result) e
 
 -- an outcome whose answer is no refusal is the accepted one, and no condition holds
 pub judged-accepted : {A : Type 0} (answer : A → Answer) (tests : List Test) (refuse : ℕ → A) (result o : A) →
@@ -104,7 +108,3 @@ pub place-inside : (n : ℕ) (p : Position) → 0 < n → pastEnd n p ≡ false 
 place-inside n p some e =
     let both = or-eq-false-eq-eq-false-and-eq-false (ltb (n - 1) (p .k)) (eqb (p .k) (n - 1) && ltb 0 (p .j)) .0 e in
     omega (arith, ltb-false (n - 1) (p .k) (both .0))
-
--- the place of a sample is not past the end
-pub sample-inside : (n k : ℕ) → k < n → pastEnd n (record { k = k; j = 0 }) ≡ false
-sample-inside n k inside = rw (le-ltb (n - 1) k (omega arith)) (and-false (eqb k (n - 1)))
