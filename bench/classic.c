@@ -174,3 +174,35 @@ double classic_picture_value(const double *coefficients, size_t width, size_t he
   double d = weighted(coefficients + rows[3] * pitch, columns, along_x);
   return along_y[0] * a + along_y[1] * b + along_y[2] * c + along_y[3] * d;
 }
+
+/* Each row of coefficients is zoomed once, and a row of values is the weighted sum of four such lines, of which the last four are kept: room is for
+ * four rows of values. */
+void classic_picture_enlarge(const double *coefficients, size_t width, size_t height, size_t pitch, size_t factor, double *values, double *room) {
+  size_t across = (width - 1) * factor + 1;
+  double *a = room, *b = a + across, *c = b + across, *d = c + across;
+  double weights[LARGEST_FACTOR][4];
+  size_t rows[4];
+  for (size_t j = 0; j < factor; j++)
+    weigh(j, factor, weights[j]);
+  places_around(0, height, rows);
+  classic_row_zoom(coefficients + rows[0] * pitch, width, factor, a);
+  classic_row_zoom(coefficients + rows[1] * pitch, width, factor, b);
+  classic_row_zoom(coefficients + rows[2] * pitch, width, factor, c);
+  for (size_t k = 0; k < height; k++) {
+    places_around(k, height, rows);
+    classic_row_zoom(coefficients + rows[3] * pitch, width, factor, d);
+    /* The last row of values is the last row of pixels. */
+    size_t count = k + 1 < height ? factor : 1;
+    for (size_t j = 0; j < count; j++) {
+      double wa = weights[j][0], wb = weights[j][1], wc = weights[j][2], wd = weights[j][3];
+      for (size_t x = 0; x < across; x++)
+        values[x] = wa * a[x] + wb * b[x] + wc * c[x] + wd * d[x];
+      values += across;
+    }
+    double *oldest = a;
+    a = b;
+    b = c;
+    c = d;
+    d = oldest;
+  }
+}

@@ -33,6 +33,16 @@ extern "C" {
         jy: usize,
         factor: usize,
     ) -> f64;
+
+    fn classic_picture_enlarge(
+        coefficients: *const f64,
+        width: usize,
+        height: usize,
+        pitch: usize,
+        factor: usize,
+        values: *mut f64,
+        room: *mut f64,
+    );
 }
 
 pub fn row_transform(samples: &[i16], coefficients: &mut [f64]) {
@@ -111,5 +121,32 @@ pub fn picture_value(
             y.1,
             factor,
         )
+    }
+}
+
+pub fn picture_enlarge(
+    coefficients: &[f64],
+    width: usize,
+    height: usize,
+    pitch: usize,
+    factor: usize,
+    values: &mut [f64],
+    room: &mut [f64],
+) {
+    assert!(width > 0 && height > 0 && pitch == width && (1..=16).contains(&factor));
+    let across = (width - 1) * factor + 1;
+    assert!(coefficients.len() == width * height && room.len() == 4 * across);
+    assert!(values.len() == across * ((height - 1) * factor + 1));
+    // SAFETY: as above, with one value for each position of the enlarged picture.
+    unsafe {
+        classic_picture_enlarge(
+            coefficients.as_ptr(),
+            width,
+            height,
+            pitch,
+            factor,
+            values.as_mut_ptr(),
+            room.as_mut_ptr(),
+        );
     }
 }

@@ -52,6 +52,17 @@ extern "C" {
         factor: usize,
     ) -> i64;
 
+    fn harness_picture_enlarge(
+        coefficients: *const i32,
+        coefficients_length: usize,
+        width: usize,
+        height: usize,
+        pitch: usize,
+        factor: usize,
+        values: *mut i32,
+        values_length: usize,
+    ) -> i64;
+
     fn harness_wav_read(
         bytes: *const u8,
         bytes_length: usize,
@@ -158,8 +169,32 @@ pub fn picture_value(
 }
 
 #[inline]
-pub fn wav_read(bytes: &[u8], samples: &mut [i16]) -> i64 {
+pub fn picture_enlarge(
+    coefficients: &[i32],
+    width: usize,
+    height: usize,
+    pitch: usize,
+    factor: usize,
+    values: &mut [i32],
+) -> i64 {
     // SAFETY: each pointer and length are those of a slice, and the slice that is written is lent mutably.
+    unsafe {
+        harness_picture_enlarge(
+            coefficients.as_ptr(),
+            coefficients.len(),
+            width,
+            height,
+            pitch,
+            factor,
+            values.as_mut_ptr(),
+            values.len(),
+        )
+    }
+}
+
+#[inline]
+pub fn wav_read(bytes: &[u8], samples: &mut [i16]) -> i64 {
+    // SAFETY: as above.
     unsafe {
         harness_wav_read(
             bytes.as_ptr(),

@@ -12,6 +12,9 @@
 //!
 //! `main bands` measures the library on a band of a picture beside the same pixels closely packed, taking turns too, and prints a line like
 //! those: the title, the time of the band and that of the packed pixels. The answers and every number of their buffers are compared.
+//!
+//! `main forms` measures enlarging by the library beside two other forms of it in safe Rust, in the same way, and prints such a line for each case:
+//! the title, the library's time, that of Rust which computes each value by itself, and that of Rust which keeps four whole lines in memory.
 
 /// The operation of the earlier version, if the program is built with one that has the C function of this name: each of its functions is told
 /// by `--cfg 'before="NAME"'`, and the crate `before` calls them.
@@ -55,7 +58,7 @@ struct Input {
     factor: usize,
 }
 
-/// What an operation answers and writes. C answers nothing and writes numbers in double precision: a row, a picture or values, and a line.
+/// What an operation answers and writes. C answers nothing and writes numbers in double precision: a row, a picture or values, and a line or four.
 struct Output {
     answer: i64,
     numbers: Vec<i32>,
@@ -70,10 +73,11 @@ type Operation = fn(&Input, &mut Output);
 type Making = fn(&mut Input) -> i64;
 
 /// One line of the table: what is measured, how often, and how many numbers it reads, writes and works in; `packed` counts the pixels of a band
-/// that are closely packed, for a case with one. `coefficients` makes those that an operation reads. One that gives a value is called for each
-/// number that is written, at a position of its own; `positions` are the length of the row, or of each side of the picture, and the factor. The
-/// line is that of C. A number of the library is `unit` times the one of C, and may differ from it by `distance`: that is at least what is proved
-/// of the library's distance to the exact number, and some room for the error of C. `before` is the operation of the earlier version.
+/// that are closely packed, for a case with one. `coefficients` makes those that an operation reads. `scale` has the length of the row, or of each
+/// side of the picture, and the factor, of an operation that reads them from the input. One that gives a value, with `positions`, is called for
+/// each number that is written, at a position of its own. The line is that of C, or its four lines. A number of the library is `unit` times the
+/// one of C, and may differ from it by `distance`: that is at least what is proved of the library's distance to the exact number, and some room
+/// for the error of C. `before` is the operation of the earlier version.
 struct Case {
     name: &'static str,
     title: &'static str,
@@ -81,7 +85,8 @@ struct Case {
     samples: usize,
     packed: usize,
     coefficients: Option<Making>,
-    positions: Option<(usize, usize)>,
+    scale: Option<(usize, usize)>,
+    positions: bool,
     numbers: usize,
     work: usize,
     line: usize,
@@ -101,6 +106,9 @@ const BAND: usize = 128;
 
 const FACTOR: usize = rust::LARGEST_FACTOR;
 
+/// The side of the largest square picture that can be enlarged at the largest factor.
+const SMALL_SIDE: usize = 64;
+
 /// One value takes too little time for the clock: a repetition asks for this many, and the time is that of all.
 const VALUES: usize = 4096;
 
@@ -116,7 +124,8 @@ const PACKED_BAND: Case = Case {
     samples: SIDE * SIDE,
     packed: BAND * SIDE,
     coefficients: None,
-    positions: None,
+    scale: None,
+    positions: false,
     numbers: BAND * SIDE,
     work: SIDE + 2 * rust::MARGIN,
     line: SIDE,
@@ -188,7 +197,45 @@ const BAND_IN_PICTURE: Case = Case {
     ..PACKED_BAND
 };
 
-const CASES: [Case; 7] = [
+/// The values of a picture of side 64, enlarged at factor 16.
+const ENLARGED: Case = Case {
+    name: "picture_enlarge_16",
+    title: "enlarge, 64 x 64 pixels at factor 16",
+    repetitions: 40,
+    samples: SMALL_SIDE * SMALL_SIDE,
+    packed: 0,
+    coefficients: Some(make_picture),
+    scale: Some((SMALL_SIDE, FACTOR)),
+    positions: false,
+    numbers: enlarged_side(SMALL_SIDE, FACTOR).pow(2),
+    work: 0,
+    line: 4 * enlarged_side(SMALL_SIDE, FACTOR),
+    unit: 256.0,
+    distance: 1.125,
+    library: |from, to| enlarge_with(library::picture_enlarge, from, to),
+    before: earlier!("picture_enlarge", |from, to| {
+        enlarge_with(before::picture_enlarge, from, to)
+    }),
+    rust: |from, to| enlarge_with(rust::picture_enlarge, from, to),
+    c: |from, to| {
+        let (c, side, factor) = (&from.real_coefficients, from.side, from.factor);
+        let (values, room) = (&mut to.reals, &mut to.line);
+        classic::picture_enlarge(c, side, side, side, factor, values, room);
+    },
+};
+
+/// The same of the largest picture, whose factor can be 2 at most.
+const ENLARGED_TWICE: Case = Case {
+    name: "picture_enlarge_2",
+    title: "enlarge, 512 x 512 pixels at factor 2",
+    samples: SIDE * SIDE,
+    scale: Some((SIDE, 2)),
+    numbers: enlarged_side(SIDE, 2).pow(2),
+    line: 4 * enlarged_side(SIDE, 2),
+    ..ENLARGED
+};
+
+const CASES: [Case; 9] = [
     Case {
         name: "row_transform",
         title: "row transform, 4096 samples",
@@ -196,7 +243,8 @@ const CASES: [Case; 7] = [
         samples: ROW,
         packed: 0,
         coefficients: None,
-        positions: None,
+        scale: None,
+        positions: false,
         numbers: ROW,
         work: ROW + 2 * rust::MARGIN,
         line: 0,
@@ -222,7 +270,8 @@ const CASES: [Case; 7] = [
         samples: SIDE * SIDE,
         packed: 0,
         coefficients: None,
-        positions: None,
+        scale: None,
+        positions: false,
         numbers: SIDE * SIDE,
         work: SIDE + 2 * rust::MARGIN,
         line: SIDE,
@@ -278,7 +327,8 @@ const CASES: [Case; 7] = [
         samples: ROW,
         packed: 0,
         coefficients: Some(make_row),
-        positions: None,
+        scale: None,
+        positions: false,
         numbers: rust::MOST_VALUES,
         work: 0,
         line: 0,
@@ -304,7 +354,8 @@ const CASES: [Case; 7] = [
         samples: ROW,
         packed: 0,
         coefficients: Some(make_row),
-        positions: Some((ROW, FACTOR)),
+        scale: Some((ROW, FACTOR)),
+        positions: true,
         numbers: VALUES,
         work: 0,
         line: 0,
@@ -328,7 +379,8 @@ const CASES: [Case; 7] = [
         samples: SIDE * SIDE,
         packed: 0,
         coefficients: Some(make_picture),
-        positions: Some((SIDE, FACTOR)),
+        scale: Some((SIDE, FACTOR)),
+        positions: true,
         numbers: VALUES,
         work: 0,
         line: 0,
@@ -348,6 +400,8 @@ const CASES: [Case; 7] = [
             }
         },
     },
+    ENLARGED,
+    ENLARGED_TWICE,
 ];
 
 const ODD_FACTOR: usize = 7;
@@ -370,7 +424,7 @@ const ODD_ZOOM: Case = Case {
 const ODD_VALUE: Case = Case {
     name: "row_value_odd",
     title: "row value, 4096 calls at factor 7",
-    positions: Some((ROW, ODD_FACTOR)),
+    scale: Some((ROW, ODD_FACTOR)),
     ..CASES[5]
 };
 
@@ -412,6 +466,20 @@ fn write_picture_values(
     write_values(answers, to);
 }
 
+/// How many values a side has when it is enlarged.
+const fn enlarged_side(n: usize, factor: usize) -> usize {
+    (n - 1) * factor + 1
+}
+
+fn enlarge_with(
+    enlarge: impl Fn(&[i32], usize, usize, usize, usize, &mut [i32]) -> i64,
+    from: &Input,
+    to: &mut Output,
+) {
+    let (c, side, factor) = (&from.coefficients, from.side, from.factor);
+    to.answer = enlarge(c, side, side, side, factor, &mut to.numbers);
+}
+
 /// Makes the coefficients of a row by the library's transform and by that of C, which a case of its own compares.
 fn make_row(input: &mut Input) -> i64 {
     classic::row_transform(&input.samples, &mut input.real_coefficients);
@@ -448,8 +516,8 @@ fn fill_positions(
 impl Input {
     fn new(case: &Case) -> Input {
         let coefficients = case.coefficients.map_or(0, |_| case.samples);
-        let positions = case.positions.map_or(0, |_| case.numbers);
-        let (side, factor) = case.positions.unwrap_or_default();
+        let positions = if case.positions { case.numbers } else { 0 };
+        let (side, factor) = case.scale.unwrap_or_default();
         Input {
             samples: vec![0; case.samples],
             packed: vec![0; case.packed],
@@ -469,7 +537,8 @@ impl Input {
         for (row, to) in rows.zip(self.packed.chunks_exact_mut(BAND)) {
             to.copy_from_slice(&row[..BAND]);
         }
-        if let Some((side, factor)) = case.positions {
+        if case.positions {
+            let (side, factor) = (self.side, self.factor);
             fill_positions(repetition, FIRST_X, side, factor, &mut self.x);
             fill_positions(repetition, FIRST_Y, side, factor, &mut self.y);
         }
@@ -583,7 +652,7 @@ fn fault(case: &Case, [library, rust, c]: &[Output; 3]) -> Option<String> {
 }
 
 /// The refusal of a version, if one refuses.
-fn refusal(_: &Case, versions: &[Output; 2]) -> Option<String> {
+fn refusal<const N: usize>(_: &Case, versions: &[Output; N]) -> Option<String> {
     let to = versions.iter().find(|to| to.answer < 0)?;
     Some(format!("refused, {}", to.answer))
 }
@@ -594,6 +663,15 @@ fn band_fault(case: &Case, results: &[Output; 2]) -> Option<String> {
     refusal(case, results).or_else(|| {
         let what = difference(band, packed)?;
         Some(format!("band and packed pixels differ in {what}"))
+    })
+}
+
+/// What is wrong in the results of the library and of other forms of enlarging, if anything is.
+fn forms_fault(case: &Case, results: &[Output; 3]) -> Option<String> {
+    let [library, terms, lines] = results;
+    refusal(case, results).or_else(|| {
+        let what = difference(library, terms).or_else(|| difference(library, lines))?;
+        Some(format!("library and another form differ in {what}"))
     })
 }
 
@@ -643,8 +721,24 @@ fn measure_bands() -> Result<[f64; 2], String> {
     least_times(&case, operations, to, band_fault)
 }
 
+/// The least times of the library, of Rust that computes each value by itself, and of Rust that keeps four whole lines.
+fn measure_forms(case: &Case) -> Result<[f64; 3], String> {
+    let terms: Operation = |from, to| enlarge_with(rust::picture_enlarge_by_terms, from, to);
+    let lines: Operation = |from, to| enlarge_with(rust::picture_enlarge_by_lines, from, to);
+    let to = [(); 3].map(|_| Output::exact(case));
+    least_times(case, [case.library, terms, lines], to, forms_fault)
+}
+
 fn print_bands([band, packed]: [f64; 2]) {
     println!("{}\t{band:.5}\t{packed:.5}", BAND_IN_PICTURE.title);
+}
+
+fn print_forms() -> Result<(), String> {
+    for case in [ENLARGED, ENLARGED_TWICE] {
+        let [library, terms, lines] = measure_forms(&case)?;
+        println!("{}\t{library:.5}\t{terms:.5}\t{lines:.5}", case.title);
+    }
+    Ok(())
 }
 
 fn print_versions() -> Result<(), String> {
@@ -689,6 +783,8 @@ fn main() -> ExitCode {
         print_versions()
     } else if word == "bands" {
         measure_bands().map(print_bands)
+    } else if word == "forms" {
+        print_forms()
     } else if let Some(case) = CASES.iter().find(|case| case.name == word) {
         measure(case).map(print_times)
     } else if let Some(case) = files::CASES.iter().find(|case| case.name == word) {

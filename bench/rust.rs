@@ -7,6 +7,7 @@ pub const LONGEST_SIDE: usize = 512;
 const GREATEST_PITCH: usize = 4096;
 pub const LARGEST_FACTOR: usize = 16;
 pub const MOST_VALUES: usize = (LONGEST_ROW - 1) * LARGEST_FACTOR + 1;
+const MOST_PICTURE_VALUES: usize = 1 << 20;
 pub const RUN: usize = 8;
 
 /// What an operation that gives one value answers to a refusal is this, which is above every value, plus the number of the refusal.
@@ -141,14 +142,19 @@ fn weighted(around: [i64; 4], weights: &[i64; 4]) -> i64 {
     around.iter().zip(weights).map(|(c, w)| c * w).sum()
 }
 
-/// The value of four numbers around a position, coefficients or sums of them: the weighted sum over the divisor, 96m³ for a row, to the nearest
-/// whole number, a tie going away from zero. The division goes towards zero, so that half of the divisor has the sign of the sum. In picture
-/// value it would be a call of its own, which takes longer.
+/// A sum over a divisor to the nearest whole number, a tie going away from zero. The division goes towards zero, so that half of the divisor
+/// has the sign of the sum.
 #[inline(always)]
-fn value(around: [i64; 4], weights: &[i64; 4], divisor: i64) -> i32 {
-    let sum = weighted(around, weights);
+fn rounded(sum: i64, divisor: i64) -> i32 {
     let half = divisor / 2;
     ((sum + if sum < 0 { -half } else { half }) / divisor) as i32
+}
+
+/// The value of four numbers around a position, coefficients or sums of them: the weighted sum over the divisor, 96m³ for a row, rounded. In
+/// picture value it would be a call of its own, which takes longer.
+#[inline(always)]
+fn value(around: [i64; 4], weights: &[i64; 4], divisor: i64) -> i32 {
+    rounded(weighted(around, weights), divisor)
 }
 
 /// The four coefficients around a place; only at the ends do they need the mirrored index.
@@ -271,6 +277,365 @@ pub fn picture_value(
         *sum = weighted([row[a], row[b], row[c], row[d]].map(i64::from), &along_x);
     }
     i64::from(value(sums, &along_y, 576 * m.pow(6)))
+}
+
+/// How many values a row of an enlarged picture has, and the part of the value buffer that the whole of it takes, or the number of the refusal
+/// negated.
+fn enlarged<'a>(
+    coefficients: &[i32],
+    width: usize,
+    height: usize,
+    pitch: usize,
+    factor: usize,
+    values: &'a mut [i32],
+) -> Result<(usize, &'a mut [i32]), i64> {
+    if width == 0 || width > LONGEST_SIDE || height == 0 || height > LONGEST_SIDE {
+        return Err(-3);
+    }
+    if pitch != width || coefficients.len() != width * height {
+        return Err(-4);
+    }
+    if factor == 0 || factor > LARGEST_FACTOR {
+        return Err(-7);
+    }
+    let across = (width - 1) * factor + 1;
+    let count = across * ((height - 1) * factor + 1);
+    if count > MOST_PICTURE_VALUES {
+        return Err(-16);
+    }
+    Ok((across, values.get_mut(..count).ok_or(-9)?))
+}
+
+/// The count of values written, or the number of the refusal negated: each value by itself, its weights by their formula, the sum of sixteen
+/// products, and one division. It is the least that can be written and not the fastest; a table of its own has its times.
+pub fn picture_enlarge_by_terms(
+    coefficients: &[i32],
+    width: usize,
+    height: usize,
+    pitch: usize,
+    factor: usize,
+    values: &mut [i32],
+) -> i64 {
+    let (across, values) = match enlarged(coefficients, width, height, pitch, factor, values) {
+        Ok(enlarged) => enlarged,
+        Err(refusal) => return refusal,
+    };
+    let m = factor as i64;
+    for (y, row) in values.chunks_exact_mut(across).enumerate() {
+        for (kx, to) in row.chunks_mut(factor).enumerate() {
+            for (jx, to) in to.iter_mut().enumerate() {
+                let along_x = weights(jx as i64, m);
+                let along_y = weights((y % factor) as i64, m);
+                let columns = places_around(kx, width);
+                let mut sum = 0;
+                for (weight, place) in along_y.iter().zip(places_around(y / factor, height)) {
+                    for (other, column) in along_x.iter().zip(columns) {
+                        sum += weight * other * i64::from(coefficients[width * place + column]);
+                    }
+                }
+                *to = rounded(sum, 576 * m.pow(6));
+            }
+        }
+    }
+    values.len() as i64
+}
+
+/// How many columns of an enlarged picture are computed beside each other: what they need fits in the processor's registers for two numbers of
+/// 64 bits.
+const LANES: usize = 4;
+
+/// The divisor of a picture's values at factor m.
+const fn divisor(m: usize) -> i64 {
+    576 * (m as i64).pow(6)
+}
+
+/// The bit that tells the sign of a sum that has been moved. A sum has at most 2^27 times the divisor in size.
+const fn sign_bit(m: usize) -> u32 {
+    28 + divisor(m).ilog2()
+}
+
+/// How many times the divisor a sum is moved up: so often that it cannot be negative, and by less than a divisor below 2^(sign bit).
+const fn moved_times(m: usize) -> i64 {
+    (1 << sign_bit(m)) / divisor(m)
+}
+
+/// What is added to a sum before it is rounded: besides the move, half of the divisor less 1.
+const fn moved_by(m: usize) -> i64 {
+    moved_times(m) * divisor(m) + divisor(m) / 2 - 1
+}
+
+/// The sum that has been moved, over the divisor, to the nearest whole number, a tie going away from zero. At a sum of half the divisor or more
+/// the sign bit is 1, and at one of minus half or less it is 0; between them it does not matter. Added, it takes a positive tie up and leaves a
+/// negative one down. The divisor of a power of two is 9 times a power of two: the sum over that power has 32 bits, and a number u of 32 bits
+/// over 9 is u(2^33 + 1) / 9 over 2^33. Thus the compiler computes several quotients at once, which it cannot with a division by 64 bits; where
+/// it does not, `narrow` is false.
+#[inline(always)]
+fn rounded_moved<const M: usize>(moved: i64, narrow: bool) -> i32 {
+    let sum = moved as u64;
+    let sum = sum + (sum >> const { sign_bit(M) });
+    let quotient = if M.is_power_of_two() && narrow {
+        let ninths = (sum >> const { divisor(M).trailing_zeros() }) as u32;
+        (u64::from(ninths) * const { ((1 << 33) + 1) / 9 }) >> 33
+    } else {
+        sum / const { divisor(M) as u64 }
+    };
+    (quotient as i32).wrapping_sub(const { moved_times(M) as i32 })
+}
+
+/// The sums at the numerators 0, 1, 2 and so on of one place, in N lines beside each other: a cubic by its differences.
+struct Sums<const N: usize> {
+    now: [i64; N],
+    first: [i64; N],
+    second: [i64; N],
+    third: [i64; N],
+}
+
+impl<const N: usize> Sums<N> {
+    /// Those of four numbers around the place in each line, at factor M, with a number that is added to every sum.
+    #[inline(always)]
+    fn new<const M: usize>([before, here, after, beyond]: [[i64; N]; 4], added: i64) -> Sums<N> {
+        let m = M as i64;
+        let mut sums = Sums {
+            now: [0; N],
+            first: [0; N],
+            second: [0; N],
+            third: [0; N],
+        };
+        for i in 0..N {
+            let (a, b, c, d) = (before[i], here[i], after[i], beyond[i]);
+            let zero = m.pow(3) * (a + 4 * b + c);
+            let one = 3 * m * m * (c - a);
+            let two = 3 * m * (a - 2 * b + c);
+            let three = d - a + 3 * (b - c);
+            sums.now[i] = zero + added;
+            // Factor 2 needs one difference only. The sum at numerator 1, less that at 0, takes fewer steps, with 23 as 16 + 8 - 1: the
+            // processor multiplies no two numbers of 64 bits at once.
+            let both = b + c;
+            sums.first[i] = if M == 2 {
+                a + d + ((both << 4) + (both << 3) - both) - zero
+            } else {
+                one + two + three
+            };
+            sums.second[i] = 2 * two + 6 * three;
+            sums.third[i] = 6 * three;
+        }
+        sums
+    }
+
+    /// The sums at the next numerator.
+    #[inline(always)]
+    fn next(&mut self) -> [i64; N] {
+        let now = self.now;
+        for i in 0..N {
+            self.now[i] += self.first[i];
+            self.first[i] += self.second[i];
+            self.second[i] += self.third[i];
+        }
+        now
+    }
+}
+
+/// Writes the sums along one row of coefficients, at every position of the enlarged row; only at the ends does it need the mirrored index.
+fn lengthen<const M: usize>(row: &[i32], line: &mut [i64]) {
+    let n = row.len();
+    let at = |four: [i32; 4]| Sums::new::<M>(four.map(|c| [i64::from(c)]), 0);
+    let end = |k: usize| at(places_around(k, n).map(|place| row[place]));
+    let fill = |part: &mut [i64; M], mut sums: Sums<1>| {
+        for to in part {
+            [*to] = sums.next();
+        }
+    };
+    let Some((last, front)) = line.split_last_mut() else {
+        return;
+    };
+    let (parts, _) = front.as_chunks_mut();
+    if let [first, inner @ ..] = parts {
+        fill(first, end(0));
+        for (part, four) in inner.iter_mut().zip(row.windows(4)) {
+            fill(part, at([four[0], four[1], four[2], four[3]]));
+        }
+        if let [.., part] = inner {
+            fill(part, end(n - 2));
+        }
+    }
+    [*last] = end(n - 1).next();
+}
+
+/// Writes the rows of values between two rows of coefficients, or the last row, of the four lines around them.
+fn write_rows<const M: usize>(lines: [&[i64]; 4], rows: &mut [i32]) {
+    let across = lines[0].len();
+    let mut chunks = rows.chunks_exact_mut(across);
+    let mut parts: [&mut [[i32; LANES]]; M] = std::array::from_fn(|_| match chunks.next() {
+        Some(row) => row.as_chunks_mut().0,
+        None => &mut [],
+    });
+    let [a, b, c, d] = lines.map(|line| line.as_chunks().0);
+    let around = a.iter().zip(b).zip(c).zip(d);
+    for (place, (((a, b), c), d)) in around.enumerate() {
+        let mut sums = Sums::<LANES>::new::<M>([*a, *b, *c, *d], const { moved_by(M) });
+        for part in &mut parts {
+            let values = sums.next().map(|sum| rounded_moved::<M>(sum, true));
+            if let Some(to) = part.get_mut(place) {
+                *to = values;
+            }
+        }
+    }
+    for x in across / LANES * LANES..across {
+        let mut sums = Sums::<1>::new::<M>(lines.map(|line| [line[x]]), const { moved_by(M) });
+        for row in rows.chunks_exact_mut(across) {
+            [row[x]] = sums.next().map(|sum| rounded_moved::<M>(sum, true));
+        }
+    }
+}
+
+/// Writes all values. Each row of coefficients becomes a line of sums along x once, and four lines are there at a time.
+fn enlarge_by_lines<const M: usize>(
+    coefficients: &[i32],
+    width: usize,
+    across: usize,
+    values: &mut [i32],
+) {
+    let height = coefficients.len() / width;
+    let row = |y: usize| &coefficients[width * y..][..width];
+    let [before, here, after, _] = places_around(0, height);
+    let mut room = vec![0; 4 * across];
+    let (a, rest) = room.split_at_mut(across);
+    let (b, rest) = rest.split_at_mut(across);
+    let (c, d) = rest.split_at_mut(across);
+    let [mut a, mut b, mut c, mut d] = [a, b, c, d];
+    lengthen::<M>(row(before), a);
+    lengthen::<M>(row(here), b);
+    lengthen::<M>(row(after), c);
+    for (k, rows) in values.chunks_mut(M * across).enumerate() {
+        let [.., beyond] = places_around(k, height);
+        lengthen::<M>(row(beyond), d);
+        write_rows::<M>([a, b, c, d], rows);
+        (a, b, c, d) = (b, c, d, a);
+    }
+}
+
+/// Writes the values of one place of a row, of the sums along the four columns around it. At the factors 1 and 2 the compiler does not compute
+/// several quotients at once, and the two values of factor 2 take fewer steps without differences.
+#[inline(always)]
+fn write_place<const M: usize>(around: [i64; 4], to: &mut [i32; M]) {
+    if M == 2 {
+        let [before, here, after, beyond] = around;
+        let first = 8 * (before + 4 * here + after) + const { moved_by(M) };
+        let second = before + beyond + 23 * (here + after) + const { moved_by(M) };
+        to[0] = rounded_moved::<M>(first, false);
+        to[1] = rounded_moved::<M>(second, false);
+        return;
+    }
+    let mut sums = Sums::<1>::new::<M>(around.map(|sum| [sum]), const { moved_by(M) });
+    for to in to {
+        [*to] = sums.next().map(|sum| rounded_moved::<M>(sum, M > 2));
+    }
+}
+
+/// Writes a row of values, of four rows of coefficients and their weights. The sum along a column is computed once, where it is the last of the
+/// four; only at the ends does it need the mirrored index.
+fn write_row<const M: usize>(rows: [&[i32]; 4], weights: [i64; 4], values: &mut [i32]) {
+    let n = rows[0].len();
+    let [a, b, c, d] = rows.map(|row| &row[..n]);
+    let [wa, wb, wc, wd] = weights;
+    let sum = |x: usize| {
+        wa * i64::from(a[x]) + wb * i64::from(b[x]) + wc * i64::from(c[x]) + wd * i64::from(d[x])
+    };
+    let [before, here, after, _] = places_around(0, n);
+    let (mut before, mut here, mut after) = (sum(before), sum(here), sum(after));
+    let (parts, _) = values.as_chunks_mut::<M>();
+    // At factor 1 the last value is a part too.
+    if let [inner @ .., part] = &mut parts[..n - 1] {
+        for (x, part) in inner.iter_mut().enumerate() {
+            let beyond = sum(x + 2);
+            write_place([before, here, after, beyond], part);
+            (before, here, after) = (here, after, beyond);
+        }
+        let [.., beyond] = places_around(n - 2, n);
+        let beyond = sum(beyond);
+        write_place([before, here, after, beyond], part);
+        (before, here, after) = (here, after, beyond);
+    }
+    let last = (M as i64).pow(3) * (before + 4 * here + after) + const { moved_by(M) };
+    values[(n - 1) * M] = rounded_moved::<M>(last, false);
+}
+
+/// Writes all values, row after row. Nothing is kept but the sums along four columns.
+fn enlarge<const M: usize>(coefficients: &[i32], width: usize, across: usize, values: &mut [i32]) {
+    let height = coefficients.len() / width;
+    for (y, row) in values.chunks_exact_mut(across).enumerate() {
+        let rows =
+            places_around(y / M, height).map(|place| &coefficients[width * place..][..width]);
+        write_row::<M>(rows, weights((y % M) as i64, M as i64), row);
+    }
+}
+
+/// The count of values written, or the number of the refusal negated. The compiler knows the factor in each of the sixteen cases.
+pub fn picture_enlarge(
+    coefficients: &[i32],
+    width: usize,
+    height: usize,
+    pitch: usize,
+    factor: usize,
+    values: &mut [i32],
+) -> i64 {
+    let (across, values) = match enlarged(coefficients, width, height, pitch, factor, values) {
+        Ok(enlarged) => enlarged,
+        Err(refusal) => return refusal,
+    };
+    match factor {
+        1 => enlarge::<1>(coefficients, width, across, values),
+        2 => enlarge::<2>(coefficients, width, across, values),
+        3 => enlarge::<3>(coefficients, width, across, values),
+        4 => enlarge::<4>(coefficients, width, across, values),
+        5 => enlarge::<5>(coefficients, width, across, values),
+        6 => enlarge::<6>(coefficients, width, across, values),
+        7 => enlarge::<7>(coefficients, width, across, values),
+        8 => enlarge::<8>(coefficients, width, across, values),
+        9 => enlarge::<9>(coefficients, width, across, values),
+        10 => enlarge::<10>(coefficients, width, across, values),
+        11 => enlarge::<11>(coefficients, width, across, values),
+        12 => enlarge::<12>(coefficients, width, across, values),
+        13 => enlarge::<13>(coefficients, width, across, values),
+        14 => enlarge::<14>(coefficients, width, across, values),
+        15 => enlarge::<15>(coefficients, width, across, values),
+        _ => enlarge::<16>(coefficients, width, across, values),
+    }
+    values.len() as i64
+}
+
+/// The same with four whole lines in memory of its own, which it allocates. A table of its own has its times.
+pub fn picture_enlarge_by_lines(
+    coefficients: &[i32],
+    width: usize,
+    height: usize,
+    pitch: usize,
+    factor: usize,
+    values: &mut [i32],
+) -> i64 {
+    let (across, values) = match enlarged(coefficients, width, height, pitch, factor, values) {
+        Ok(enlarged) => enlarged,
+        Err(refusal) => return refusal,
+    };
+    match factor {
+        1 => enlarge_by_lines::<1>(coefficients, width, across, values),
+        2 => enlarge_by_lines::<2>(coefficients, width, across, values),
+        3 => enlarge_by_lines::<3>(coefficients, width, across, values),
+        4 => enlarge_by_lines::<4>(coefficients, width, across, values),
+        5 => enlarge_by_lines::<5>(coefficients, width, across, values),
+        6 => enlarge_by_lines::<6>(coefficients, width, across, values),
+        7 => enlarge_by_lines::<7>(coefficients, width, across, values),
+        8 => enlarge_by_lines::<8>(coefficients, width, across, values),
+        9 => enlarge_by_lines::<9>(coefficients, width, across, values),
+        10 => enlarge_by_lines::<10>(coefficients, width, across, values),
+        11 => enlarge_by_lines::<11>(coefficients, width, across, values),
+        12 => enlarge_by_lines::<12>(coefficients, width, across, values),
+        13 => enlarge_by_lines::<13>(coefficients, width, across, values),
+        14 => enlarge_by_lines::<14>(coefficients, width, across, values),
+        15 => enlarge_by_lines::<15>(coefficients, width, across, values),
+        _ => enlarge_by_lines::<16>(coefficients, width, across, values),
+    }
+    values.len() as i64
 }
 
 /// The number of two bytes from a place on, the low one first.

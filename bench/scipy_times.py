@@ -115,7 +115,40 @@ class Values(Zoom):
         self.positions = numpy.array([positions(repetition, first, n, FACTOR, self.count) for first, n in sides])
 
 
+class Enlarge:
+    """zoom of coefficients in float64, which are made outside the time, to every position of the enlarged picture."""
+
+    FACTOR = FACTOR
+
+    def __init__(self, shape):
+        self.shape = shape
+        larger = [(n - 1) * self.FACTOR + 1 for n in shape]
+        # scipy multiplies the shape by these and rounds. Without grid_mode the first and the last positions of both are the same.
+        self.zoom = [many / n for many, n in zip(larger, shape)]
+        self.output = numpy.zeros(larger, numpy.float64)
+
+    def load(self, repetition):
+        self.pixels = samples(repetition, self.shape)
+        self.data = filtered(self.pixels)
+
+    def call(self):
+        # Of an output of another shape scipy says so, and ends.
+        ndimage.zoom(self.data, self.zoom, output=self.output, order=3, mode="mirror", prefilter=False, grid_mode=False)
+
+    def check(self):
+        """The value at each pixel is the pixel, which it is only if the positions are those of the enlarged picture."""
+        if not numpy.allclose(self.output[:: self.FACTOR, :: self.FACTOR], self.pixels, rtol=0, atol=1 / 256):
+            sys.exit("the zoom does not return the pixels")
+
+
+class EnlargeTwice(Enlarge):
+    """The same at factor 2."""
+
+    FACTOR = 2
+
+
 # Each case: the call, the shape of its data, where a picture's height comes first, and a shape so small that only the call itself takes time.
+# Enlarged at factor 16 that one has 289 values, which take a part of the time.
 CASES = {
     "row_transform": (Transform, (4096,), (2,)),
     "picture_transform": (Transform, (512, 512), (2, 2)),
@@ -124,6 +157,8 @@ CASES = {
     "row_zoom": (Zoom, (4096,), (2,)),
     "row_value": (Values, (4096,), (2,)),
     "picture_value": (Values, (512, 512), (2, 2)),
+    "picture_enlarge_16": (Enlarge, (64, 64), (2, 2)),
+    "picture_enlarge_2": (EnlargeTwice, (512, 512), (2, 2)),
 }
 
 
@@ -136,6 +171,8 @@ def least(operation, shape, repetitions):
         start = time.perf_counter_ns()
         case.call()
         times.append(time.perf_counter_ns() - start)
+        if hasattr(case, "check"):
+            case.check()
     return min(times) / 1000
 
 

@@ -1,5 +1,6 @@
 """The operations in whole numbers and fractions, written from docs/SPECIFICATION.md alone: transforms and values to the last bit, the exact
 solution of the mirrored equations and the exact spline for the distances, and the refusals by lengths, sides, pitches and factors."""
+import array
 from fractions import Fraction
 from functools import lru_cache
 
@@ -10,6 +11,7 @@ LONGEST_SIDE = 512
 GREATEST_PITCH = 4096
 FACTORS = range(1, 17)
 MOST_VALUES = (LONGEST_ROW - 1) * FACTORS[-1] + 1
+MOST_ENLARGED = 1048576
 
 
 def work_words(line):
@@ -22,6 +24,10 @@ def nearest(numerator, denominator):
     whole number above 0. R(a) is nearest(a, 2 ** 31)."""
     size = (2 * abs(numerator) + denominator) // (2 * denominator)
     return -size if numerator < 0 else size
+
+
+def negated(numbers):
+    return [-number for number in numbers]
 
 
 def mirrored(index, n):
@@ -142,6 +148,7 @@ def greatest_distance(scale, numerators, denominator, found):
 # ----- Values between samples -----
 
 
+@lru_cache(maxsize=2**10)
 def weights(j, m):
     return (m - j) ** 3, 3 * j**3 - 6 * j**2 * m + 4 * m**3, -3 * j**3 + 3 * j**2 * m + 3 * j * m**2 + m**3, j**3
 
@@ -179,6 +186,50 @@ def picture_sum(numbers, width, x, y, m):
 
 def picture_value(coefficients, width, x, y, m):
     return nearest(picture_sum(coefficients, width, x, y, m), 576 * m**6)
+
+
+def enlarged_sides(width, height, m):
+    """How many values an enlarged picture has in a row and in a column."""
+    return (width - 1) * m + 1, (height - 1) * m + 1
+
+
+# What makes any 32-bit number 0 or greater.
+LIFT = 2**31
+
+
+def weighted(j, m, numbers):
+    """The sum of four numbers with the weights at j/m."""
+    return sum(weight * number for weight, number in zip(weights(j, m), numbers))
+
+
+def enlarged_values(coefficients, width, m):
+    """The picture value at every position of an enlarged picture, row after row.
+
+    This is written for speed, and tests/enlarge compares it with picture_value() before it uses it. Each sum of sixteen products is taken along the
+    height first and then along the width, without a rounding between, which gives the same whole number. A row, mirrored by as much as is read
+    beyond its ends, is one whole number with a coefficient to every 64 bits, so that one product weights all of them. For this each coefficient
+    has LIFT added, which makes it 0 or greater; no sum then passes 64 bits, and each is too great by LIFT times the sum of the weights.
+    """
+    places = [mirrored(index, width) for index in range(-1, width + 2)]
+    rows = []
+    for start in range(0, len(coefficients), width):
+        lifted = array.array("Q", [coefficients[start + place] + LIFT for place in places])
+        rows.append(int.from_bytes(lifted.tobytes(), "little"))
+    unit, zero = 576 * m**6, 36 * m**6 * LIFT
+    down = zero - unit // 2
+    values = []
+    for k, j in row_positions(len(rows), m):
+        sums = weighted(j, m, [rows[mirrored(index, len(rows))] for index in range(k - 1, k + 3)])
+        shifted = [sums >> 64 * i for i in range(4)]
+        line = [0] * ((width - 1) * m + 1)
+        for i in range(m):
+            # The last place has a value only at the numerator 0.
+            count = width if i == 0 else width - 1
+            at = (weighted(i, m, shifted) % 2 ** (64 * count)).to_bytes(8 * count, "little")
+            # Half a unit more and then down; below 0 less by the least step, so that a tie goes away from zero.
+            line[i::m] = [(number - down - (number < zero)) // unit for number in array.array("Q", at)]
+        values += line
+    return values
 
 
 # ----- Refusals by lengths, sides, pitches and factors -----

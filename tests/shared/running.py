@@ -33,6 +33,7 @@ PARAMETERS = {
     "row_value": SLICE + 3 * SIZE,
     "row_zoom": SLICE + SIZE + SLICE,
     "picture_value": SLICE + 8 * SIZE,
+    "picture_enlarge": SLICE + 4 * SIZE + SLICE,
     "wav_read": 2 * SLICE,
     "onset_find": SLICE + SIZE + VALUE + 2 * FLOAT,
 }
@@ -52,17 +53,19 @@ class Slice:
         low = -(2 ** (8 * ctypes.sizeof(kind) - 1))
         guard = [low + 12345 + i for i in range(self.GUARD)]
         self.memory = self.held(kind, guard, list(numbers))
-        self.before = self.memory[:]
+        self.before = type(self.memory).from_buffer_copy(self.memory)
         self.lent = ctypes.c_void_p(ctypes.addressof(self.memory) + self.GUARD * ctypes.sizeof(kind))
 
     def held(self, kind, guard, numbers):
         """The numbers in memory, and the guards; of a number too great for its kind the low bits."""
         together = guard + numbers + guard
-        return (kind * len(together))(*together)
+        memory = (kind * len(together))()
+        memory[:] = together
+        return memory
 
-    def words(self):
-        """How the slice is passed."""
-        return self.lent, self.length
+    def words(self, length=None):
+        """How the slice is passed, or as much of its start."""
+        return self.lent, self.length if length is None else length
 
     def numbers(self):
         return self.memory[self.GUARD : self.GUARD + self.length]
@@ -71,8 +74,17 @@ class Slice:
         """Another number in this place before the next call."""
         self.memory[self.GUARD + place] = self.before[self.GUARD + place] = number
 
+    def same_bytes(self, start, end):
+        """Whether nothing has changed in these places; a comparison of bytes is faster than one of numbers."""
+        size = ctypes.sizeof(self.memory._type_)
+        now, before = [memoryview(memory).cast("B")[size * start : size * end] for memory in (self.memory, self.before)]
+        return now == before
+
     def demand(self, name, written):
         """The slice must now start with what is written there and be unchanged beyond it; so must both guards."""
+        written, end = list(written), self.GUARD + len(written)
+        if self.memory[self.GUARD : end] == written and self.same_bytes(0, self.GUARD) and self.same_bytes(end, len(self.memory)):
+            return
         expected = self.before[:]
         expected[self.GUARD : self.GUARD + len(written)] = written
         now = self.memory[:]

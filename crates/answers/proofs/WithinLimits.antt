@@ -7,6 +7,7 @@ use native.Mathlib.Omega.{arith}
 use Rattle.bspline.specs.Limits.{greatestPitch, greatestFactor}
 use Rattle.bspline.specs.PictureLayout.{Shape, area, extent}
 use Rattle.bspline.specs.Refusals.{outside, badSides}
+use Rattle.bspline.specs.Values.{zoomCount, enlarged}
 use Rattle.bspline.proofs.Refusals.{one-to, sides-within}
 use Rattle.answers.specs.Limits.{Factor, GoodSides}
 
@@ -26,3 +27,12 @@ pub extent-small : (d : Shape) → GoodSides d → d .pitch ≤ greatestPitch �
 extent-small d good near =
     let rows : d .height - 1 ≤ 511 = omega (arith, good .low) in
     omega (arith, mul-le-mul rows near, good .narrow)
+
+-- and its enlarged sides have at most 511 × 16 + 1 values each
+pub enlarged-small : (m : ℕ) (d : Shape) → Factor m → GoodSides d → area (enlarged m d) ≤ 2 ^ 26
+enlarged-small m d f good =
+    let across : d .width - 1 ≤ 511 = omega (arith, good .narrow) in
+    let down : d .height - 1 ≤ 511 = omega (arith, good .low) in
+    let wide : zoomCount m (d .width) ≤ 8177 = omega (arith, mul-le-mul across (f .small)) in
+    let high : zoomCount m (d .height) ≤ 8177 = omega (arith, mul-le-mul down (f .small)) in
+    omega (arith, mul-le-mul wide high)

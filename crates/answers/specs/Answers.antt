@@ -5,7 +5,7 @@ use Rattle.bspline.specs.PictureLayout as layout
 use Rattle.bspline.specs.Values as values
 use Rattle.answers.specs.declared.Position.{Position}
 use Rattle.answers.specs.declared.Refusal.{Refusal}
-use Rattle.answers.specs.declared.Refusal.the-variants.{EmptyRow, LongRow, BadSide, WrongLayout, ShortWork, ShortCoefficients, BadFactor, BadNumerator, ShortValues, BadText, BadFile, OtherFormat, UnfitSamples, PastEnd, PastBottom}
+use Rattle.answers.specs.declared.Refusal.the-variants.{EmptyRow, LongRow, BadSide, WrongLayout, ShortWork, ShortCoefficients, BadFactor, BadNumerator, ShortValues, BadText, BadFile, OtherFormat, UnfitSamples, PastEnd, PastBottom, ManyValues}
 use Rattle.answers.specs.declared.Shape.{Shape}
 use Rattle.answers.specs.declared.Valued.{Valued}
 use Rattle.answers.specs.declared.Valued.the-variants.{Value, Refused as NoValue}
@@ -29,6 +29,7 @@ number OtherFormat = 12
 number UnfitSamples = 13
 number PastEnd = 14
 number PastBottom = 15
+number ManyValues = 16
 
 -- what an enum answers
 abbrev pub written : Written → Answer

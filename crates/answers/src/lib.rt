@@ -24,6 +24,7 @@ pub enum Refusal {
     UnfitSamples,
     PastEnd,
     PastBottom,
+    ManyValues,
 }
 
 impl Refusal {
@@ -47,6 +48,7 @@ impl Refusal {
             Refusal::UnfitSamples => 13,
             Refusal::PastEnd => 14,
             Refusal::PastBottom => 15,
+            Refusal::ManyValues => 16,
         }
     }
 
@@ -58,7 +60,7 @@ impl Refusal {
     }
 }
 
-// What a transform and row zoom answer: how many numbers were written, or the refusal.
+// What a transform, row zoom and enlarging answer: how many numbers were written, or the refusal.
 pub enum Written {
     Count(usize),
     Refused(Refusal),

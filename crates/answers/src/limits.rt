@@ -25,3 +25,6 @@ pub const LONGEST_SIDE_WORK: usize = LONGEST_SIDE + MARGINS;
 
 // How many values the longest row has at the greatest factor.
 pub const MOST_VALUES: usize = (LONGEST_ROW - 1) * GREATEST_FACTOR + 1;
+
+// The most values of an enlarged picture.
+pub const MOST_ENLARGED: usize = 1048576;

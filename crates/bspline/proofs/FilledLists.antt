@@ -2,13 +2,15 @@
 use mathlib.Core.List.{List, _++_, append-assoc}
 use mathlib.Core.Path.{_≡_, refl, sym, ap, ap₂, _∙_}
 use Prim.Native.Nat.{ℕ, _+_, _-_, _≤_, _<_, zero-le}
+use native.Mathlib.Nat.{zero-add}
 use native.Mathlib.Numerals.{add-one}
 use native.Mathlib.Omega.{arith}
 use borrow.Rule.Slice.PartMut.{midOf, postOf, putMid, same-len-mid, mid-len}
 use lib.IntN.{ℤ, pos}
 use lib.ListN.{length, take, drop, set, length-set, length-append}
 use lib.Seq.{ext-getD, getD-take, getD-drop, length-take-le, take-suc, take-suc-set, take-all, take-add, take-at}
-use Rattle.bspline.specs.Lists.{at}
+use Rattle.bspline.specs.Lists.{tabulate, at}
+use Rattle.bspline.proofs.Lists.{tabulate-length, tabulate-from-zero}
 
 pub record Filled (target l : List ℤ) (i : ℕ) : Type 0 where
   pub within : i ≤ length target
@@ -57,6 +59,24 @@ filled-part {target} {l} {i} e v f h g q =
           ∙ sym (take-add i (e - i) target)
           ∙ ap (λ (n : ℕ). take n target) whole;
     }
+
+-- the same where the part is a table of the target's numbers
+pub filled-table : {target l : List ℤ} {i : ℕ} (e : ℕ) (v : List ℤ) (g : ℕ → ℤ) → Filled target l i → i ≤ e → e ≤ length l →
+    ((j : ℕ) → j < e - i → g j ≡ at target (i + j)) → v ≡ tabulate g 0 (length (midOf i (e - i) l)) → Filled target (putMid i (e - i) l v) e
+filled-table {target} {l} {i} e v g f h b same q =
+    let room : e ≤ length target = omega (arith, f .long) in
+    filled-part e v f h room
+    (q
+    ∙ ap (tabulate g 0) (mid-len i e l b)
+    ∙ part-is target (tabulate g 0 (e - i)) i e room (tabulate-length g 0 (e - i)) (λ j s. tabulate-from-zero g (e - i) j s ∙ same j s))
+
+-- and where it is the front of the list
+pub filled-front : (target l : List ℤ) (e : ℕ) (v : List ℤ) (g : ℕ → ℤ) → length l ≡ length target → e ≤ length l →
+    ((j : ℕ) → j < e → g j ≡ at target j) → v ≡ tabulate g 0 (length (take e l)) → Filled target (v ++ drop e l) e
+filled-front target l e v g long b same q =
+    let all : e - 0 ≡ e = omega arith in
+    rw all at (filled-table e v g (filled-none target l long) (omega arith) b
+    (λ j h. same j (omega arith) ∙ ap (at target) (sym (zero-add j))) (rw all q))
 
 pub filled-all : {target l : List ℤ} {i : ℕ} → Filled target l i → length target ≤ i → l ≡ target
 filled-all {target} {l} {i} f h =

@@ -22,6 +22,7 @@ pub mod OffData
 pub mod Weights
 pub mod Values
 pub mod Zoom
+pub mod Enlargement
 pub mod Operations
 pub mod SamePictures
 pub mod Negation

@@ -15,7 +15,7 @@ use Rattle.bspline.specs.Negation.{negated}
 use Rattle.bspline.specs.PictureLayout.{Shape, area, place, pixel, raster}
 use Rattle.bspline.specs.Recursions.{Z, R, margin, window, causal, forward, anticausal, first, backward, coefficient, delivered, coefficients}
 use Rattle.bspline.specs.Transforms.{rowCoefficients, firstPass, secondPass, pictureCoefficients}
-use Rattle.bspline.specs.Values.{Position, weights, support, dot, rowSum, pictureSum, valueInRow, valueInPicture, zoomPosition, zoomCount, zoomValues}
+use Rattle.bspline.specs.Values.{Position, weights, support, dot, rowSum, pictureSum, valueInRow, valueInPicture, zoomPosition, zoomCount, zoomValues, enlarged, enlargedValues}
 use Rattle.bspline.proofs.Lists.{tabulate-map, take-map, drop-map}
 use Rattle.bspline.proofs.Weights.{picture-sum-rows}
 
@@ -97,11 +97,16 @@ pass-negated : (n c : ℕ) (t u : ℕ → ℤ) → ((k : ℕ) → u k ≡ negℤ
     at (coefficients n (λ k. pos c *ℤ u k)) x ≡ negℤ (at (coefficients n (λ k. pos c *ℤ t k)) x)
 pass-negated n c t u e x = ap (λ l. at l x) (scaled-negated n c t u e) ∙ negated-at (coefficients n (λ k. pos c *ℤ t k)) x
 
+-- a picture of opposite numbers is the negation
+raster-negated : (d : Shape) (f g : ℕ → ℕ → ℤ) → ((x y : ℕ) → g x y ≡ negℤ (f x y)) → raster d g ≡ negated (raster d f)
+unfolding raster
+raster-negated d f g e =
+    ap (λ (f : ℕ → ℕ → ℤ). raster d f) (fun-ext (λ x. fun-ext (λ y. e x y)))
+    ∙ tabulate-map negℤ (λ i. f (i % d .width) (i / d .width)) 0 (area d)
+
 pub picture-coefficients-negated : (d : Shape) (p : List ℤ) → pictureCoefficients d (negated p) ≡ negated (pictureCoefficients d p)
-unfolding pictureCoefficients raster firstPass secondPass
-picture-coefficients-negated d p =
-    ap (λ (f : ℕ → ℕ → ℤ). raster d f) (fun-ext (λ x. fun-ext (λ y. columns x y)))
-    ∙ tabulate-map negℤ (λ i. secondPass d p (i % d .width) (i / d .width)) 0 (area d)
+unfolding pictureCoefficients firstPass secondPass
+picture-coefficients-negated d p = raster-negated d (secondPass d p) (secondPass d (negated p)) columns
   where
     rows : (x y : ℕ) → firstPass d (negated p) x y ≡ negℤ (firstPass d p x y)
     rows x y = pass-negated (d .width) 65536 (λ k. pixel d p k y) (λ k. pixel d (negated p) k y) (λ k. negated-at p (place d k y)) x
@@ -147,3 +152,8 @@ unfolding zoomValues
 zoom-values-negated m c =
     ap₂ (λ (f : ℕ → ℤ) n. tabulate f 0 (zoomCount m n)) (fun-ext (λ i. value-in-row-negated m c (zoomPosition m i))) (length-map c negℤ)
     ∙ tabulate-map negℤ (λ i. valueInRow m c (zoomPosition m i)) 0 (zoomCount m (length c))
+
+pub enlarged-values-negated : (m : ℕ) (d : Shape) (c : List ℤ) → enlargedValues m d (negated c) ≡ negated (enlargedValues m d c)
+unfolding enlargedValues
+enlarged-values-negated m d c =
+    raster-negated (enlarged m d) _ _ (λ x y. value-in-picture-negated m d c (zoomPosition m x) (zoomPosition m y))

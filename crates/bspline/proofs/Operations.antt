@@ -3,9 +3,9 @@
 -- coefficients begin the buffer, and the accuracy, from which the values' distances and the return of the samples follow. Assumes nothing.
 use mathlib.Core.Bool.{false}
 use mathlib.Core.List.{List}
-use mathlib.Core.Path.{_≡_, refl, sym, ap, _∙_}
+use mathlib.Core.Path.{_≡_, refl, sym, ap, ap₂, _∙_}
 use Prim.Native.Nat.{ℕ, max, _+_, _-_, _*_, _≤_, _<_}
-use native.Mathlib.Nat.{add-zero, mod-lt, mul-le-mul-right}
+use native.Mathlib.Nat.{mod-lt, mul-le-mul-right, div-add-mod'}
 use native.Mathlib.Omega.{arith}
 use borrow.Author.Tests.{ltb-false, eqb-false, ne-eqb, eq-eqb, le-ltb}
 use lib.IntN.{ℤ, pos, _*ℤ_}
@@ -14,17 +14,18 @@ use lib.Seq.{getD-take, take-at}
 use Rattle.bspline.specs.Exact.{RowAccurate, PictureAccurate}
 use Rattle.bspline.specs.Limits.{longestRow, greatestFactor, workWords}
 use Rattle.bspline.specs.Lists.{at}
-use Rattle.bspline.specs.Outcomes.{overwrite, Transformed, Evaluated, refused, accepted, rowTests, rowTransform, zoomTests, rowZoom, rowValueTests, rowValue, pictureTests, pictureTransform, pictureValueTests, pictureValue}
+use Rattle.bspline.specs.Outcomes.{Transformed, Evaluated, refused, accepted, rowTests, rowTransform, unevaluated, evaluated, zoomTests, rowZoom, enlargementTests, pictureEnlargement, rowValueTests, rowValue, pictureTests, pictureTransform, pictureValueTests, pictureValue}
 use Rattle.bspline.specs.PictureLayout.{Shape, packed, area, place, pixel}
 use Rattle.bspline.specs.Refusals.{Answer, count, value, refusal, Test, badSides, judged}
 use Rattle.bspline.specs.Transforms.{rowCoefficients, pictureCoefficients}
-use Rattle.bspline.specs.Values.{Position, zoomPosition, zoomCount, zoomValues, valueInRow, valueInPicture, RowValueAccurate, PictureValueAccurate}
+use Rattle.bspline.specs.Values.{Position, zoomPosition, zoomCount, zoomValues, enlarged, enlargedValues, valueInRow, valueInPicture, RowValueAccurate, PictureValueAccurate}
+use Rattle.bspline.proofs.Enlargement.{enlarged-length, enlarged-at}
 use Rattle.bspline.proofs.Lists.{tabulate-from-zero}
 use Rattle.bspline.proofs.OffData.{row-value-number, picture-value-number}
 use Rattle.bspline.proofs.PictureLayout.{place-below}
 use Rattle.bspline.proofs.Refusals.{Passed, judged-accepted, one-to, inside, sides-within, numerator-below}
 use Rattle.bspline.proofs.Transforms.{row-length, picture-length}
-use Rattle.bspline.proofs.Zoom.{position-at, zoom-length}
+use Rattle.bspline.proofs.Zoom.{position-at-sample, zoom-length}
 use Rattle.bspline.proofs.Values.{row-value-accurate, sample-returns, picture-value-accurate, pixel-returns}
 
 -- a sample's place, in steps of the factor, is not behind the last one's
@@ -54,23 +55,52 @@ value-taken tests v w e =
     let t = judged-accepted (λ (a : Answer). a) tests refusal (value w) (value v) never (sym e) in
     (t .0, let f = t .1 in cc)
 
--- row zoom that answers a count has listed so many values, at a factor in range, and they begin the buffer
+-- row zoom or enlarging that answers a count n has made so many values, no test's condition holds, and the values begin the buffer
+values-taken : (tests : List Test) (q : ℕ) (made buffer vs : List ℤ) (n : ℕ) → length made ≡ q →
+    record { answer = count n; values = vs } ≡ judged tests (unevaluated buffer) (evaluated q made buffer) →
+    Passed tests × (n ≡ q) × (take n vs ≡ made)
+values-taken tests q made buffer vs n l e =
+    let never : (k : ℕ) → refusal k ≡ count n → ⊥ = λ k f. let z : _≡_ {A = ℕ} 0 1 = cc in omega arith in
+    let t = judged-accepted (λ (o : Evaluated). o .answer) tests (unevaluated buffer) (evaluated q made buffer) _ never e in
+    let same : n ≡ q = let f = ap (λ (o : Evaluated). o .answer) (t .1) in cc in
+    (t .0, same, ap (λ (o : Evaluated). take n (o .values)) (t .1) ∙ take-at made _ n (l ∙ sym same))
+
+-- row zoom: at a factor in range
 pub zoom-left : (m : ℕ) (c buffer vs : List ℤ) (q : ℕ) → record { answer = count q; values = vs } ≡ rowZoom m c buffer →
     (0 < m) × (m ≤ greatestFactor) × (q ≡ zoomCount m (length c)) × (take q vs ≡ zoomValues m c)
 unfolding rowZoom
 zoom-left m c buffer vs q e =
-    let size = zoomCount m (length c) in
-    let refuse : ℕ → Evaluated = λ k. record { answer = refusal k; values = buffer } in
-    let outcome : Evaluated = record { answer = count size; values = overwrite (zoomValues m c) buffer } in
-    let never : (k : ℕ) → refusal k ≡ count q → ⊥ = λ k f. let z : _≡_ {A = ℕ} 0 1 = cc in omega arith in
-    let t = judged-accepted (λ (o : Evaluated). o .answer) (zoomTests m c buffer) refuse outcome _ never e in
-    let same : q ≡ size = let f = ap (λ (o : Evaluated). o .answer) (t .1) in cc in
-    let factor = one-to greatestFactor m (t .0 .1 .1 .0) in (
-      factor .0,
-      factor .1,
-      same,
-      ap (λ (o : Evaluated). take q (o .values)) (t .1) ∙ take-at (zoomValues m c) _ q (zoom-length m c ∙ sym same),
-    )
+    let t = values-taken (zoomTests m c buffer) (zoomCount m (length c)) (zoomValues m c) buffer vs q (zoom-length m c) e in
+    let range = one-to greatestFactor m (t .0 .1 .1 .0) in
+    (range .0, range .1, t .1, t .2)
+
+-- enlarging: the same, of a picture that is closely packed and whose sides are in range
+pub enlargement-left : (m : ℕ) (d : Shape) (c buffer vs : List ℤ) (q : ℕ) → record { answer = count q; values = vs } ≡ pictureEnlargement m d c buffer →
+    Passed (enlargementTests m d c buffer) × (q ≡ area (enlarged m d)) × (take q vs ≡ enlargedValues m d c)
+unfolding pictureEnlargement
+enlargement-left m d c buffer vs q e =
+    values-taken (enlargementTests m d c buffer) (area (enlarged m d)) (enlargedValues m d c) buffer vs q (enlarged-length m d c) e
+
+-- the value that it leaves in column x and row y is the one at x/m and y/m
+enlarged-value : (m : ℕ) (d : Shape) (c buffer vs : List ℤ) (q : ℕ) → record { answer = count q; values = vs } ≡ pictureEnlargement m d c buffer →
+    (x y : ℕ) → x < enlarged m d .width → y < enlarged m d .height →
+    pixel (enlarged m d) vs x y ≡ valueInPicture m d c (zoomPosition m x) (zoomPosition m y)
+enlarged-value m d c buffer vs q e x y h g =
+    let t = enlargement-left m d c buffer vs q e in
+    sym (getD-take q vs (place (enlarged m d) x y) (pos 0) (omega (arith, t .1, place-below (enlarged m d) x y h g)))
+    ∙ ap (λ l. pixel (enlarged m d) l x y) (t .2)
+    ∙ enlarged-at m d c x y h g
+
+-- and so what picture value answers there
+pub enlargement-values : (m : ℕ) (d : Shape) (c buffer vs : List ℤ) (q : ℕ) → record { answer = count q; values = vs } ≡ pictureEnlargement m d c buffer →
+    (x y : ℕ) → x < enlarged m d .width → y < enlarged m d .height →
+    pictureValue m d c (zoomPosition m x) (zoomPosition m y) ≡ value (pixel (enlarged m d) vs x y)
+enlargement-values m d c buffer vs q e x y h g =
+    let t = enlargement-left m d c buffer vs q e .0 in
+    let some = one-to greatestFactor m (t .1 .1 .0) .0 in
+    picture-value-number m d c (zoomPosition m x) (zoomPosition m y) (t .0, (t .1 .0, (t .1 .1 .0, tt))) .4
+    (mod-lt x some) (mod-lt y some) (omega (arith, div-add-mod' x m)) (omega (arith, div-add-mod' y m))
+    ∙ ap value (sym (enlarged-value m d c buffer vs q e x y h g))
 
 -- ---- rows
 -- what the transform leaves where it answers a count
@@ -163,10 +193,8 @@ module _ (s C : List ℤ) (n : ℕ) (taken : RowTaken s C n) where
       (k : ℕ) → k < n → at vs (k * m) ≡ pos 256 *ℤ at s k
   row-zoom-returns m buffer vs q e k h =
       let t = listed m buffer vs q e in
-      let below : k * m + 0 < q = omega (arith, t .count, sample-within m n k h) in
-      ap (at vs) (sym (add-zero (k * m)))
-      ∙ t .values (k * m + 0) below
-      ∙ ap (valueInRow m (take n C)) (position-at m k 0 (t .factor .0))
+      t .values (k * m) (omega (arith, t .count, sample-within m n k h))
+      ∙ ap (valueInRow m (take n C)) (position-at-sample m k (t .factor .0))
       ∙ sample-returns m (t .factor .0) s (take n C) long near k (omega (arith, taken .count))
 
 -- ---- pictures
@@ -233,3 +261,21 @@ module _ (d : Shape) (p C : List ℤ) (n : ℕ) (taken : PictureTaken d p C n) w
         (rw (eq-eqb (d .width) (d .width) refl, eq-eqb (length (take n C)) (area d) full) refl, (inside greatestFactor m some small, tt)),
       ) .4 some some (sample-within m (d .width) x left) (sample-within m (d .height) y above)
       ∙ ap value (pixel-returns m some d p (take n C) close x y left above)
+
+  -- every value that enlarging leaves of them is within 15/16
+  pub enlargement-near : (m : ℕ) (buffer vs : List ℤ) (q : ℕ) → record { answer = count q; values = vs } ≡ pictureEnlargement m (packed d) (take n C) buffer →
+      (x y : ℕ) → x < enlarged m d .width → y < enlarged m d .height →
+      PictureValueAccurate m d p (zoomPosition m x) (zoomPosition m y) (pixel (enlarged m d) vs x y)
+  enlargement-near m buffer vs q e x y h g =
+      picture-value-near m (zoomPosition m x) (zoomPosition m y) _ (enlargement-values m (packed d) (take n C) buffer vs q e x y h g)
+
+  -- and the one at the place of a pixel is 256 times the pixel
+  pub enlargement-returns : (m : ℕ) (buffer vs : List ℤ) (q : ℕ) → record { answer = count q; values = vs } ≡ pictureEnlargement m (packed d) (take n C) buffer →
+      (x y : ℕ) → x < d .width → y < d .height → pixel (enlarged m d) vs (x * m) (y * m) ≡ pos 256 *ℤ pixel d p x y
+  enlargement-returns m buffer vs q e x y left above =
+      let some = one-to greatestFactor m (enlargement-left m (packed d) (take n C) buffer vs q e .0 .1 .1 .0) .0 in
+      let across = sample-within m (d .width) x left in
+      let down = sample-within m (d .height) y above in
+      enlarged-value m (packed d) (take n C) buffer vs q e (x * m) (y * m) (omega (arith, across)) (omega (arith, down))
+      ∙ ap₂ (valueInPicture m (packed d) (take n C)) (position-at-sample m x some) (position-at-sample m y some)
+      ∙ pixel-returns m some d p (take n C) close x y left above

@@ -1,5 +1,5 @@
 -- The law of negation about operations: what the two transforms leave of negated samples is the negation of what they leave of the samples, what row
--- value, row zoom and picture value answer of negated coefficients is the opposite, and so negated samples have negated values. Each call may
+-- value, row zoom, picture value and enlarging answer of negated coefficients is the opposite, and so negated samples have negated values. Each call may
 -- have buffers of its own, and a negated picture its own slice and pitch. A call is refused exactly if the other is, where their buffers are as long
 -- and neither or both are refused for their pixels. The laws hold for every list of whole numbers; a caller's samples are 16 bits wide, and have a
 -- negation of that width if none is -32768. Assumes nothing.
@@ -10,13 +10,13 @@ use lib.IntN.{ℤ, negℤ}
 use lib.ListN.{length, take, length-map}
 use Rattle.bspline.specs.Limits.{workWords}
 use Rattle.bspline.specs.Negation.{negated, opposite}
-use Rattle.bspline.specs.Outcomes.{overwrite, Transformed, Evaluated, refused, accepted, rowTests, rowTransform, zoomTests, rowZoom, rowValueTests, rowValue, pictureTests, pictureTransform, pictureValueTests, pictureValue}
+use Rattle.bspline.specs.Outcomes.{Transformed, Evaluated, refused, accepted, rowTests, rowTransform, unevaluated, evaluated, zoomTests, rowZoom, enlargementTests, pictureEnlargement, rowValueTests, rowValue, pictureTests, pictureTransform, pictureValueTests, pictureValue}
 use Rattle.bspline.specs.PictureLayout.{Shape, packed, area, SamePicture}
 use Rattle.bspline.specs.Refusals.{count, value, refusal, Test, badPixels, judged}
 use Rattle.bspline.specs.Transforms.{rowCoefficients, pictureCoefficients}
-use Rattle.bspline.specs.Values.{Position, valueInRow, valueInPicture, zoomCount, zoomValues}
-use Rattle.bspline.proofs.Negation.{row-coefficients-negated, picture-coefficients-negated, value-in-row-negated, value-in-picture-negated, zoom-values-negated}
-use Rattle.bspline.proofs.Operations.{row-left, picture-left, zoom-left}
+use Rattle.bspline.specs.Values.{Position, valueInRow, valueInPicture, zoomCount, zoomValues, enlarged, enlargedValues}
+use Rattle.bspline.proofs.Negation.{row-coefficients-negated, picture-coefficients-negated, value-in-row-negated, value-in-picture-negated, zoom-values-negated, enlarged-values-negated}
+use Rattle.bspline.proofs.Operations.{row-left, picture-left, zoom-left, enlargement-left}
 use Rattle.bspline.proofs.PictureLayout.{same-area}
 use Rattle.bspline.proofs.Refusals.{judged-map}
 use Rattle.bspline.proofs.SamePictures.{picture-coefficients-same}
@@ -38,7 +38,12 @@ picture-value-negated m d c px py =
     rw (same-length c, value-in-picture-negated m d c px py)
     (sym (judged-map opposite (pictureValueTests m d c px py) refusal (value (valueInPicture m d c px py))))
 
--- ---- row zoom: two calls, each with a buffer of its own
+-- ---- row zoom and enlarging: two calls, each with a buffer of its own
+-- the answer, by the tests alone
+values-answer : (tests : List Test) (n : ℕ) (made buffer : List ℤ) →
+    judged tests (unevaluated buffer) (evaluated n made buffer) .answer ≡ judged tests refusal (count n)
+values-answer tests n made buffer = judged-map (λ (o : Evaluated). o .answer) tests (unevaluated buffer) (evaluated n made buffer)
+
 -- the values that the one lists are those of the other negated
 pub row-zoom-negated : (m : ℕ) (c buffer vs buffer′ vs′ : List ℤ) (q q′ : ℕ) →
     record { answer = count q; values = vs } ≡ rowZoom m c buffer →
@@ -49,6 +54,15 @@ row-zoom-negated m c buffer vs buffer′ vs′ q q′ e e′ =
     let t′ = zoom-left m (negated c) buffer′ vs′ q′ e′ in
     (t′ .2 ∙ ap (zoomCount m) (same-length c) ∙ sym (t .2), t′ .3 ∙ zoom-values-negated m c ∙ ap negated (sym (t .3)))
 
+pub enlargement-negated : (m : ℕ) (d : Shape) (c buffer vs buffer′ vs′ : List ℤ) (q q′ : ℕ) →
+    record { answer = count q; values = vs } ≡ pictureEnlargement m d c buffer →
+    record { answer = count q′; values = vs′ } ≡ pictureEnlargement m d (negated c) buffer′ →
+    (q′ ≡ q) × (take q′ vs′ ≡ negated (take q vs))
+enlargement-negated m d c buffer vs buffer′ vs′ q q′ e e′ =
+    let t = enlargement-left m d c buffer vs q e in
+    let t′ = enlargement-left m d (negated c) buffer′ vs′ q′ e′ in
+    (t′ .1 ∙ sym (t .1), t′ .2 ∙ enlarged-values-negated m d c ∙ ap negated (sym (t .2)))
+
 -- in buffers of one length they answer the same, refusals too
 pub row-zoom-alike : (m : ℕ) (c buffer buffer′ : List ℤ) → length buffer′ ≡ length buffer →
     rowZoom m (negated c) buffer′ .answer ≡ rowZoom m c buffer .answer
@@ -56,9 +70,16 @@ unfolding rowZoom
 row-zoom-alike m c buffer buffer′ e = answer (negated c) buffer′ ∙ rw (same-length c, e) (sym (answer c buffer))
   where
     answer : (c buffer : List ℤ) → rowZoom m c buffer .answer ≡ judged (zoomTests m c buffer) refusal (count (zoomCount m (length c)))
-    answer c buffer =
-        judged-map (λ (o : Evaluated). o .answer) (zoomTests m c buffer) (λ k. record { answer = refusal k; values = buffer })
-        (record { answer = count (zoomCount m (length c)); values = overwrite (zoomValues m c) buffer })
+    answer c buffer = values-answer (zoomTests m c buffer) (zoomCount m (length c)) (zoomValues m c) buffer
+
+pub enlargement-alike : (m : ℕ) (d : Shape) (c buffer buffer′ : List ℤ) → length buffer′ ≡ length buffer →
+    pictureEnlargement m d (negated c) buffer′ .answer ≡ pictureEnlargement m d c buffer .answer
+unfolding pictureEnlargement
+enlargement-alike m d c buffer buffer′ e = answer (negated c) buffer′ ∙ rw (same-length c, e) (sym (answer c buffer))
+  where
+    answer : (c buffer : List ℤ) →
+        pictureEnlargement m d c buffer .answer ≡ judged (enlargementTests m d c buffer) refusal (count (area (enlarged m d)))
+    answer c buffer = values-answer (enlargementTests m d c buffer) (area (enlarged m d)) (enlargedValues m d c) buffer
 
 -- ---- the transforms: two calls likewise
 -- the answer of a transform, by its tests alone
@@ -125,3 +146,12 @@ module _ (d : Shape) (p : List ℤ) (e : Shape) (q buffer work C W buffer′ wor
       pictureValue m (packed d) (take n′ C′) px py ≡ opposite (pictureValue m (packed d) (take n C) px py)
   reversed-picture-value m px py =
       ap (λ c. pictureValue m (packed d) c px py) (picture-transform-negated .1) ∙ picture-value-negated m (packed d) (take n C) px py
+
+  -- and the enlarged picture has the negated values
+  pub reversed-enlargement : (m : ℕ) (values vs values′ vs′ : List ℤ) (i i′ : ℕ) →
+      record { answer = count i; values = vs } ≡ pictureEnlargement m (packed d) (take n C) values →
+      record { answer = count i′; values = vs′ } ≡ pictureEnlargement m (packed d) (take n′ C′) values′ →
+      (i′ ≡ i) × (take i′ vs′ ≡ negated (take i vs))
+  reversed-enlargement m values vs values′ vs′ i i′ f f′ =
+      enlargement-negated m (packed d) (take n C) values vs values′ vs′ i i′ f
+      (f′ ∙ ap (λ c. pictureEnlargement m (packed d) c values′) (picture-transform-negated .1))

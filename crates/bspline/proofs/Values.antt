@@ -139,7 +139,7 @@ solution-at-sample m n s c solves k l =
 solution-at-pixel : (m : ℕ) (d : Shape) (p c : Grid) → SolvesPicture (d .width) (d .height) p c → (x y : ℕ) → x < d .width → y < d .height →
     pos (p .den) *ℤ pictureSum m d (c .num) (sample x) (sample y) ≡ pos (36 * m ^ 6 * c .den) *ℤ p .num x y
 solution-at-pixel m d p c solves x y l u =
-    rw (picture-sum-rows m d (c .num) (sample x) (sample y), sums-exchanged m (d .width) (d .height) (c .num) x y, sixth m)
+    rw (picture-sum-rows m d (c .num) (sample x) (sample y), sums-exchanged m (d .width) (d .height) (c .num) (sample x) (sample y), sixth m)
     (*ℤ-cancel (pos (b .den)) (show (simp reify tt) (omega (arith, b .above)))
     (joined (pos (m ^ 3)) (pos (b .den)) (pos (c .den)) (pos (p .den))
     (rowSum m (d .width) down (sample x)) (rowSum m (d .width) across (sample x)) (p .num x y)

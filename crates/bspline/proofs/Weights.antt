@@ -4,7 +4,7 @@
 -- At a sample, j = 0, a row's sum is m³ times the 1-4-1 sum. Assumes nothing.
 use mathlib.Core.List.{List, [], _∷_, _++_, map, foldr, append-nil}
 use mathlib.Core.Path.{_≡_, refl, sym, ap, ap₂, subst, _∙_}
-use Prim.Native.Nat.{ℕ, suc, _+_, _-_, _*_, _^_, _≤_, _<_}
+use Prim.Native.Nat.{ℕ, zero, suc, _+_, _-_, _*_, _^_, _≤_, _<_}
 use native.Mathlib.Nat.{add-zero, zero-add, pow-zero, pow-suc, mul-le-mul, mul-le-mul-left, add-sub-of-le}
 use native.Mathlib.Omega.{arith}
 use lib.IntN.{ℤ, pos, natAbs, _+ℤ_, _-ℤ_, _*ℤ_, +ℤ-idl, +ℤ-idr, +ℤ-assoc, *ℤ-zero}
@@ -173,6 +173,43 @@ picture-sum-rows m d c px py =
     row : ℕ → List ℤ
     row i = support (d .width) (λ x. c x (mirror (d .height) (pos (py .k + i) -ℤ pos 1))) (px .k)
 
+-- the sum over numbers that have two parts, one of them times a
+dot-parts : (a : ℤ) (w : List ℤ) (f g : ℕ → ℤ) (i n : ℕ) →
+    dot w (tabulate (λ j. a *ℤ f j +ℤ g j) i n) ≡ a *ℤ dot w (tabulate f i n) +ℤ dot w (tabulate g i n)
+unfolding tabulate
+dot-parts a [] f g i n = ring (a ∷ []) (simp polys tt) tt
+dot-parts a (b ∷ w) f g i zero = ring (a ∷ []) (simp polys tt) tt
+dot-parts a (b ∷ w) f g i (suc n) =
+    ap (λ x. b *ℤ (a *ℤ f i +ℤ g i) +ℤ x) (dot-parts a w f g (suc i) n)
+    ∙ ring (a ∷ b ∷ f i ∷ g i ∷ dot w (tabulate f (suc i) n) ∷ dot w (tabulate g (suc i) n) ∷ []) (simp polys tt) tt
+
+dot-zeros : (w : List ℤ) (i n : ℕ) → dot w (tabulate (λ _. pos 0) i n) ≡ pos 0
+unfolding tabulate
+dot-zeros [] i n = refl
+dot-zeros (b ∷ w) i zero = refl
+dot-zeros (b ∷ w) i (suc n) = ap₂ _+ℤ_ (*ℤ-zero b) (dot-zeros w (suc i) n)
+
+-- a sum of sums may begin with either
+dot-exchanged : (v w : List ℤ) (f : ℕ → ℕ → ℤ) (i k n l : ℕ) →
+    dot w (tabulate (λ x. dot v (tabulate (λ y. f x y) k l)) i n) ≡ dot v (tabulate (λ y. dot w (tabulate (λ x. f x y) i n)) k l)
+unfolding tabulate
+dot-exchanged [] w f i k n l = dot-zeros w i n
+dot-exchanged (a ∷ v) w f i k n zero = dot-zeros w i n
+dot-exchanged (a ∷ v) w f i k n (suc l) =
+    dot-parts a w (λ x. f x k) (λ x. dot v (tabulate (f x) (suc k) l)) i n
+    ∙ ap (λ s. a *ℤ dot w (tabulate (λ x. f x k) i n) +ℤ s) (dot-exchanged v w f i (suc k) n l)
+
+-- the sum along a column of sums along rows is the sum along a row of sums along columns
+pub sums-exchanged : (m w h : ℕ) (c : ℕ → ℕ → ℤ) (px py : Position) →
+    rowSum m h (λ y. rowSum m w (λ x. c x y) px) py ≡ rowSum m w (λ x. rowSum m h (λ y. c x y) py) px
+unfolding rowSum
+sums-exchanged m w h c px py =
+    dot-exchanged (weights m (px .j)) (weights m (py .j)) (λ y x. c (read w px x) (read h py y)) 0 0 4 4
+  where
+    -- the place of the i-th number of a support
+    read : ℕ → Position → ℕ → ℕ
+    read n p i = mirror n (pos (p .k + i) -ℤ pos 1)
+
 module _ (D X : ℕ) where
   -- D × a - X × b is at most B in size
   abbrev Apart : ℕ → ℤ → ℤ → Type 0
@@ -280,22 +317,3 @@ sum-at-sample m n c k =
 
     after : pos (k + 2) -ℤ pos 1 ≡ pos k +ℤ pos 1
     after = show (simp reify tt) (omega arith)
-
--- at a sample of a picture the sum along columns of sums along rows is the sum along rows of sums along columns: both have the same nine products
-pub sums-exchanged : (m w h : ℕ) (c : ℕ → ℕ → ℤ) (x y : ℕ) →
-    rowSum m h (λ l. rowSum m w (λ k. c k l) (record { k = x; j = 0 })) (record { k = y; j = 0 }) ≡
-    rowSum m w (λ k. rowSum m h (λ l. c k l) (record { k = y; j = 0 })) (record { k = x; j = 0 })
-unfolding tridiagonal
-sums-exchanged m w h c x y =
-    simp sum-at-sample
-    (nine (pos (m ^ 3)) (mirror w (pos x -ℤ pos 1)) (mirror w (pos x)) (mirror w (pos x +ℤ pos 1))
-    (mirror h (pos y -ℤ pos 1)) (mirror h (pos y)) (mirror h (pos y +ℤ pos 1)))
-  where
-    -- the 1-4-1 sum by its three places
-    three : (i j k : ℕ) → (ℕ → ℤ) → ℤ
-    three i j k f = f i +ℤ pos 4 *ℤ f j +ℤ f k
-
-    -- nine products on each side
-    nine : (M : ℤ) (i j k r s t : ℕ) → M *ℤ three r s t (λ l. M *ℤ three i j k (λ k. c k l)) ≡ M *ℤ three i j k (λ k. M *ℤ three r s t (λ l. c k l))
-    nine M i j k r s t =
-        ring (M ∷ c i r ∷ c i s ∷ c i t ∷ c j r ∷ c j s ∷ c j t ∷ c k r ∷ c k s ∷ c k t ∷ []) (simp polys tt) tt

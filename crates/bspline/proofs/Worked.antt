@@ -1,11 +1,11 @@
 -- The marked examples M1 to M13 of "Checked examples" hold, by computing. And the exact solutions among them, M7, M8, M9 and M13, are the
 -- only ones: whatever solves the equations of the listed data equals the listed numbers, by uniqueness. Other examples hold by computing too: which
--- sizes, layouts and positions are refused, and as which number. Most proofs hold with another limit, order or number in a definition that the code
+-- sizes, layouts and positions are refused, and as which number, and what is left in buffers. Most proofs hold with another limit, order or number in a definition that the code
 -- follows; these examples do not. Assumes nothing.
 use mathlib.Core.Bool.{true, false}
-use mathlib.Core.List.{List, [], _∷_, List·Memᴰ, List·Memᴰ·head, List·Memᴰ·tail}
+use mathlib.Core.List.{List, [], _∷_, _++_, List·Memᴰ, List·Memᴰ·head, List·Memᴰ·tail}
 use mathlib.Core.Path.{_≡_, refl}
-use Prim.Native.Nat.{ℕ, zero, suc, _<_}
+use Prim.Native.Nat.{ℕ, zero, suc, _+_, _<_}
 use native.Mathlib.Omega.{arith}
 use borrow.Author.Count.{below-none, below-more}
 use lib.IntN.{ℤ, pos, negℤ}
@@ -17,11 +17,11 @@ use Rattle.bspline.specs.Mirror.{mirror}
 use Rattle.bspline.specs.Recursions.{R, causal, forward, anticausal, backward, coefficient, delivered, coefficients}
 use Rattle.bspline.specs.Lists.{tabulate}
 use Rattle.bspline.specs.Limits.{longestRow, greatestFactor, mostValues, workWords}
-use Rattle.bspline.specs.Outcomes.{rowTransform, rowZoom, rowValue, pictureTransform, pictureValue}
-use Rattle.bspline.specs.Refusals.{refusal, _when_, refusal-1, refusal-2, outside, badSides, badPixels, badCoefficients, badNumerator, pastEnd}
-use Rattle.bspline.specs.PictureLayout.{sides}
-use Rattle.bspline.specs.Transforms.{rowCoefficients}
-use Rattle.bspline.specs.Values.{Position, weights, rowSum, valueInRow}
+use Rattle.bspline.specs.Outcomes.{rowTransform, rowZoom, rowValue, pictureTransform, pictureValue, pictureEnlargement}
+use Rattle.bspline.specs.Refusals.{count, refusal, _when_, refusal-1, refusal-2, outside, badSides, badPixels, badCoefficients, badNumerator, pastEnd}
+use Rattle.bspline.specs.PictureLayout.{sides, raster}
+use Rattle.bspline.specs.Transforms.{rowCoefficients, firstPass, secondPass, pictureCoefficients}
+use Rattle.bspline.specs.Values.{Position, weights, block, rowSum, pictureSum, valueInRow, valueInPicture, zoomValues, enlargedValues}
 use Rattle.bspline.proofs.Uniqueness.{unique, picture-unique}
 
 -- P 0, .., P (n - 1), the last first
@@ -158,6 +158,45 @@ pub picture-positions-refused : (pictureValue 2 (sides 3 2) (zeros 6) (position 
     × (pictureValue 2 (sides 3 2) (zeros 6) (position 2 0) (position 2 0) ≡ refusal 15)
 unfolding pictureValue
 picture-positions-refused = (refl, refl, refl, refl, refl, refl, refl, refl, refl, refl)
+
+-- enlarging: 94 × 94 at factor 11 has exactly 1,048,576 values, and with one column more too many; of both that and a short buffer the first refuses
+pub enlargements-refused-first : (pictureEnlargement 0 (record { width = 2; height = 0; pitch = 3 }) [] [] .answer ≡ refusal 3)
+    × (pictureEnlargement 0 (record { width = 2; height = 2; pitch = 3 }) [] [] .answer ≡ refusal 4)
+    × (pictureEnlargement 0 (sides 1 1) [] [] .answer ≡ refusal 4) × (pictureEnlargement 0 (sides 1 1) (zeros 1) [] .answer ≡ refusal 7)
+    × (pictureEnlargement 17 (sides 65 65) (zeros 4225) [] .answer ≡ refusal 7) × (pictureEnlargement 16 (sides 65 65) (zeros 4225) [] .answer ≡ refusal 16)
+    × (pictureEnlargement 11 (sides 95 94) (zeros 8930) [] .answer ≡ refusal 16) × (pictureEnlargement 11 (sides 94 94) (zeros 8836) [] .answer ≡ refusal 9)
+    × (pictureEnlargement 2 (sides 3 1) (zeros 3) (zeros 4) .answer ≡ refusal 9) × (pictureEnlargement 2 (sides 3 1) (zeros 3) (zeros 5) .answer ≡ count 5)
+unfolding pictureEnlargement
+enlargements-refused-first = (refl, refl, refl, refl, refl, refl, refl, refl, refl, refl)
+
+-- ---- a refused call leaves its buffers as they were, and an accepted one writes its numbers from the start, clears the words of work that it requires
+-- and leaves the rest: of one number, in buffers that have room for one more
+abbrev much : ℕ → List ℤ
+much n = replicate (workWords n + 1) (pos 9)
+
+pub buffers-left : (rowTransform [] (pos 7 ∷ []) (pos 9 ∷ []) ≡ record { answer = refusal 1; coefficients = pos 7 ∷ []; work = pos 9 ∷ [] })
+    × (rowTransform (zeros 1) (pos 7 ∷ pos 8 ∷ []) (much 1) ≡ record { answer = count 1; coefficients = pos 0 ∷ pos 8 ∷ []; work = zeros (workWords 1) ++ pos 9 ∷ [] })
+    × (pictureTransform (sides 1 0) [] (pos 7 ∷ []) (pos 9 ∷ []) ≡ record { answer = refusal 3; coefficients = pos 7 ∷ []; work = pos 9 ∷ [] })
+    × (pictureTransform (sides 1 1) (zeros 1) (pos 7 ∷ pos 8 ∷ []) (much 1)
+    ≡ record { answer = count 1; coefficients = pos 0 ∷ pos 8 ∷ []; work = zeros (workWords 1) ++ pos 9 ∷ [] })
+    × (rowZoom 17 (zeros 1) (pos 7 ∷ []) ≡ record { answer = refusal 7; values = pos 7 ∷ [] })
+    × (rowZoom 1 (pos 16 ∷ []) (pos 7 ∷ pos 8 ∷ []) ≡ record { answer = count 1; values = pos 1 ∷ pos 8 ∷ [] })
+    × (pictureEnlargement 17 (sides 1 1) (zeros 1) (pos 7 ∷ []) ≡ record { answer = refusal 7; values = pos 7 ∷ [] })
+    × (pictureEnlargement 1 (sides 1 1) (pos 16 ∷ []) (pos 7 ∷ pos 8 ∷ []) ≡ record { answer = count 1; values = pos 1 ∷ pos 8 ∷ [] })
+unfolding rowTransform rowCoefficients pictureTransform pictureCoefficients firstPass secondPass coefficients forward backward delivered causal anticausal coefficient R rowZoom zoomValues valueInRow rowSum pictureEnlargement enlargedValues raster tabulate valueInPicture pictureSum block weights round mirror
+buffers-left = (refl, refl, refl, refl, refl, refl, refl, refl)
+
+-- ---- the values of an enlarged picture
+-- six coefficients at factor 2 as a picture of 3 × 2, which has 5 × 3 values, and as one of 2 × 3, which has 3 × 5: row after row
+abbrev six : List ℤ
+six = pos 9216 ∷ pos 0 ∷ pos 0 ∷ pos 0 ∷ pos 0 ∷ pos 4608 ∷ []
+
+pub row-after-row : (enlargedValues 2 (sides 3 2) six
+    ≡ pos 256 ∷ pos 186 ∷ pos 80 ∷ pos 54 ∷ pos 64 ∷ pos 192 ∷ pos 141 ∷ pos 72 ∷ pos 75 ∷ pos 96 ∷ pos 128 ∷ pos 96 ∷ pos 64 ∷ pos 96 ∷ pos 128 ∷ [])
+    × (enlargedValues 2 (sides 2 3) six
+    ≡ pos 256 ∷ pos 192 ∷ pos 128 ∷ pos 186 ∷ pos 141 ∷ pos 96 ∷ pos 80 ∷ pos 72 ∷ pos 64 ∷ pos 54 ∷ pos 75 ∷ pos 96 ∷ pos 64 ∷ pos 96 ∷ pos 128 ∷ [])
+unfolding enlargedValues raster tabulate valueInPicture pictureSum block weights round mirror
+row-after-row = (refl, refl)
 
 -- a value is not clamped: of the greatest and of the least coefficient it is far outside of 256 times the samples
 pub not-clamped : (valueInRow 1 (pos 2147483647 ∷ []) (record { k = 0; j = 0 }) ≡ pos 134217728)

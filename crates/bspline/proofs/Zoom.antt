@@ -1,9 +1,9 @@
 -- The positions that row zoom lists and the values there: the position at place k × m + j is k + j/m, since k × m + j has the quotient k and the
 -- remainder j by m, and so the value there is the row value at k + j/m; how many there are. Assumes nothing.
 use mathlib.Core.List.{List}
-use mathlib.Core.Path.{_≡_, ap, ap₂, _∙_}
-use Prim.Native.Nat.{ℕ, _+_, _-_, _*_, _/_, _≤_, _<_}
-use native.Mathlib.Nat.{mul-le-mul, mul-le-mul-right, div-lt-iff-lt-mul}
+use mathlib.Core.Path.{_≡_, sym, ap, ap₂, _∙_}
+use Prim.Native.Nat.{ℕ, suc, _+_, _-_, _*_, _/_, _≤_, _<_}
+use native.Mathlib.Nat.{add-zero, suc-mul, mul-le-mul, mul-le-mul-right, div-lt-iff-lt-mul}
 use native.Mathlib.Omega.{arith}
 use lib.Arith.{digits-div, digits-mod}
 use lib.IntN.{ℤ}
@@ -17,9 +17,15 @@ use Rattle.bspline.proofs.Lists.{tabulate-length, tabulate-from-zero}
 pub position-at : (m k j : ℕ) → j < m → zoomPosition m (k * m + j) ≡ record { k = k; j = j }
 position-at m k j h = ap₂ (λ (a b : ℕ). record { k = a; j = b }) (digits-div k h) (digits-mod k h)
 
--- each one of the longest row is at a place of it
-pub position-inside : (m i : ℕ) → 0 < m → i < zoomCount m longestRow → i / m < longestRow
-position-inside m i p h = div-lt-iff-lt-mul p .1 (omega arith)
+-- at place k × m it is k
+pub position-at-sample : (m k : ℕ) → 0 < m → zoomPosition m (k * m) ≡ record { k = k; j = 0 }
+position-at-sample m k h = ap (zoomPosition m) (sym (add-zero (k * m))) ∙ position-at m k 0 h
+
+-- each one is at a place of the row
+pub position-inside : (m n i : ℕ) → 0 < m → 0 < n → i < zoomCount m n → i / m < n
+position-inside m n i p s h =
+    let last : suc (n - 1) ≡ n = omega arith in
+    div-lt-iff-lt-mul p .1 (omega (arith, ap (λ k. k * m) last, suc-mul (n - 1) m))
 
 -- a row has no more of them than the longest one
 pub count-inside : (m n : ℕ) → n ≤ longestRow → zoomCount m n ≤ zoomCount m longestRow

@@ -23,6 +23,10 @@ greatestFactor = 16
 abbrev pub mostValues : ℕ
 mostValues = zoomCount greatestFactor longestRow
 
+-- the most values of an enlarged picture
+abbrev pub mostEnlarged : ℕ
+mostEnlarged = 1048576
+
 -- how many words of work a line of n numbers takes: its own and a margin at each end
 abbrev pub workWords : ℕ → ℕ
 workWords n = n + 2 * margin

@@ -5,9 +5,9 @@ use lib.IntN.{ℤ, pos}
 use lib.ListN.{length, drop, replicate}
 use Rattle.bspline.specs.PictureLayout.{Shape, area}
 use Rattle.bspline.specs.Limits.{longestRow, workWords}
-use Rattle.bspline.specs.Refusals.{Answer, count, value, refusal, Test, refusal-1, refusal-2, refusal-3, refusal-4-pixels, refusal-4-coefficients, refusal-5, refusal-6, refusal-7, refusal-8, refusal-9, refusal-14, refusal-15, judged}
+use Rattle.bspline.specs.Refusals.{Answer, count, value, refusal, Test, refusal-1, refusal-2, refusal-3, refusal-4-pixels, refusal-4-coefficients, refusal-5, refusal-6, refusal-7, refusal-8, refusal-9, refusal-14, refusal-15, refusal-16, judged}
 use Rattle.bspline.specs.Transforms.{rowCoefficients, pictureCoefficients}
-use Rattle.bspline.specs.Values.{Position, valueInRow, valueInPicture, zoomCount, zoomValues}
+use Rattle.bspline.specs.Values.{Position, valueInRow, valueInPicture, zoomCount, zoomValues, enlarged, enlargedValues}
 
 -- numbers written from a buffer's start; every number beyond them stays
 abbrev pub overwrite : List ℤ → List ℤ → List ℤ
@@ -43,20 +43,34 @@ unfoldable pub pictureTransform : Shape → List ℤ → List ℤ → List ℤ �
 pictureTransform d p buffer work =
     judged (pictureTests d p buffer work) (refused buffer work) (accepted (area d) (pictureCoefficients d p) (workWords (max (d .width) (d .height))) buffer work)
 
--- ---- row zoom: the answer, and the value buffer afterwards
+-- ---- row zoom and enlarging: the answer, and the value buffer afterwards
 pub record Evaluated : Type 0 where
   pub answer : Answer
   pub values : List ℤ
 
--- it tests 1, 2, 7, 9
+-- a refused call changes nothing
+abbrev pub unevaluated : List ℤ → ℕ → Evaluated
+unevaluated buffer k = record { answer = refusal k; values = buffer }
+
+-- an accepted one writes n values
+abbrev pub evaluated : ℕ → List ℤ → List ℤ → Evaluated
+evaluated n vs buffer = record { answer = count n; values = overwrite vs buffer }
+
+-- row zoom: 1, 2, 7, 9
 abbrev pub zoomTests : ℕ → List ℤ → List ℤ → List Test
 zoomTests m c buffer = refusal-1 (length c) ∷ refusal-2 longestRow (length c) ∷ refusal-7 m ∷ refusal-9 (zoomCount m (length c)) buffer ∷ []
 
 unfoldable pub rowZoom : ℕ → List ℤ → List ℤ → Evaluated
-rowZoom m c buffer =
-    judged (zoomTests m c buffer)
-    (λ k. record { answer = refusal k; values = buffer })
-    (record { answer = count (zoomCount m (length c)); values = overwrite (zoomValues m c) buffer })
+rowZoom m c buffer = judged (zoomTests m c buffer) (unevaluated buffer) (evaluated (zoomCount m (length c)) (zoomValues m c) buffer)
+
+-- enlarging a picture: 3, 4, 7, 16, 9
+abbrev pub enlargementTests : ℕ → Shape → List ℤ → List ℤ → List Test
+enlargementTests m d c buffer =
+    refusal-3 d ∷ refusal-4-coefficients d c ∷ refusal-7 m ∷ refusal-16 (area (enlarged m d)) ∷ refusal-9 (area (enlarged m d)) buffer ∷ []
+
+unfoldable pub pictureEnlargement : ℕ → Shape → List ℤ → List ℤ → Evaluated
+pictureEnlargement m d c buffer =
+    judged (enlargementTests m d c buffer) (unevaluated buffer) (evaluated (area (enlarged m d)) (enlargedValues m d c) buffer)
 
 -- ---- the two values: an answer alone, since they write nothing. Row value tests 1, 2, 7, 8, 14
 abbrev pub rowValueTests : ℕ → List ℤ → Position → List Test

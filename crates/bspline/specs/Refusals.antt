@@ -6,7 +6,7 @@ use lib.Dec.{leb, ltb, eqb}
 use lib.IntN.{ℤ}
 use lib.ListN.{length}
 use Rattle.bspline.specs.PictureLayout.{Shape, area, extent}
-use Rattle.bspline.specs.Limits.{longestSide, greatestPitch, greatestFactor, workWords}
+use Rattle.bspline.specs.Limits.{longestSide, greatestPitch, greatestFactor, mostEnlarged, workWords}
 use Rattle.bspline.specs.Values.{Position}
 
 -- An answer: the count of numbers written, or the value, or the refusal by its number
@@ -91,6 +91,10 @@ refusal-14 n p = 14 when pastEnd n p
 -- a place past the bottom edge of a picture n high
 abbrev pub refusal-15 : ℕ → Position → Test
 refusal-15 n p = 15 when pastEnd n p
+
+-- an enlarged picture of n values, which are more than 1,048,576
+abbrev pub refusal-16 : ℕ → Test
+refusal-16 n = 16 when ltb mostEnlarged n
 
 -- the first test whose condition holds refuses; where none does the call is accepted
 abbrev pub judged : {A : Type 0} → List Test → (ℕ → A) → A → A

@@ -6,7 +6,7 @@ use lib.ListN.{length}
 use Rattle.integers.specs.Rounding.{round}
 use Rattle.bspline.specs.Exact.{Fractions, Solves, Grid, SolvesPicture, whole, wholeGrid, Near}
 use Rattle.bspline.specs.Mirror.{mirror}
-use Rattle.bspline.specs.PictureLayout.{Shape, pixel}
+use Rattle.bspline.specs.PictureLayout.{Shape, sides, pixel, raster}
 use Rattle.bspline.specs.Lists.{tabulate, at}
 
 -- A position: whole part k and numerator j over a factor m, meaning k + j/m
@@ -75,6 +75,14 @@ zoomCount m n = (n - 1) * m + 1
 
 unfoldable pub zoomValues : ℕ → List ℤ → List ℤ
 zoomValues m c = tabulate (λ i. valueInRow m c (zoomPosition m i)) 0 (zoomCount m (length c))
+
+-- the enlarged picture: along each side as many values as row zoom lists of as many numbers
+abbrev pub enlarged : ℕ → Shape → Shape
+enlarged m d = sides (zoomCount m (d .width)) (zoomCount m (d .height))
+
+-- its values, row after row: the one in column x and row y is the picture value at x/m and y/m
+unfoldable pub enlargedValues : ℕ → Shape → List ℤ → List ℤ
+enlargedValues m d c = raster (enlarged m d) (λ x y. valueInPicture m d c (zoomPosition m x) (zoomPosition m y))
 
 -- ---- distances
 -- the exact spline of a row is the weighted sum of the exact solution, over 6m³. A row value v of a row's coefficients is within 19/32 of 256 times it

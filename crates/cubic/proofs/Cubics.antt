@@ -1,11 +1,12 @@
 -- The differences of a cubic: at the numerator 0, from a numerator to the next, and how great they are. Assumes nothing.
 use mathlib.Core.List.{[], _∷_}
 use mathlib.Core.Path.{_≡_, ap₂, _∙_}
-use Prim.Native.Nat.{ℕ, _+_, _^_, _≤_}
+use Prim.Native.Nat.{ℕ, _≤_}
+use native.Mathlib.Nat.{le-refl}
 use native.Mathlib.Omega.{arith}
 use lib.IntN.{ℤ, pos, _+ℤ_, _-ℤ_, _*ℤ_}
 use Rattle.integers.specs.Bound.{Within}
-use Rattle.integers.proofs.Absolute.{within-weaken, within-add, within-sub, within-mul}
+use Rattle.integers.proofs.Absolute.{within-weaken, within-add, within-mul}
 use Rattle.integers.proofs.Ring.{polys, ring}
 use Rattle.cubic.specs.declared.Cubic.{Cubic}
 use Rattle.cubic.specs.declared.Differences.{Differences}
@@ -43,26 +44,34 @@ differences-next {f} {j} at s = record {
   third = s .third ∙ at .third ∙ constant f j;
 }
 
--- a growth looks at most three numerators ahead, and 16 + 3 is 19: the sizes of the coefficients times the powers of 19 add up to less than 2^49
-cubic-within : {f : Cubic} → CubicSmall f → (j : ℕ) → j ≤ 19 → Within (2 ^ 49) (cubicSum f (pos j))
-cubic-within s j h =
-    let numerator : Within 19 (pos j) = record { within = h } in
+-- ---- how great they are at a numerator up to 16
+-- the growths as polynomials of the numerator
+first-is : (f : Cubic) (j : ℤ) →
+    growth (cubicSum f) j ≡ (pos 3 *ℤ (j *ℤ j) +ℤ pos 3 *ℤ j +ℤ pos 1) *ℤ f .three +ℤ (pos 2 *ℤ j +ℤ pos 1) *ℤ f .two +ℤ f .one
+first-is f j = ring (f .zero ∷ f .one ∷ f .two ∷ f .three ∷ j ∷ []) (simp polys tt) tt
+
+second-is : (f : Cubic) (j : ℤ) → growth (growth (cubicSum f)) j ≡ (pos 6 *ℤ j +ℤ pos 6) *ℤ f .three +ℤ pos 2 *ℤ f .two
+second-is f j = ring (f .zero ∷ f .one ∷ f .two ∷ f .three ∷ j ∷ []) (simp polys tt) tt
+
+third-is : (f : Cubic) (j : ℤ) → growth (growth (growth (cubicSum f))) j ≡ pos 6 *ℤ f .three
+third-is f j = ring (f .zero ∷ f .one ∷ f .two ∷ f .three ∷ j ∷ []) (simp polys tt) tt
+
+-- the sizes of the coefficients times the powers of 16 add up to 2^17 times the greatest sum, and so on for the growths
+pub differences-small : {f : Cubic} {d : Differences} → CubicSmall f → (j : ℕ) → j ≤ 16 → DifferencesAt f (pos j) d → DifferencesSmall d
+differences-small {f} s j h at =
+    let numerator : Within 16 (pos j) = record { within = h } in
     let linear = within-add (within-mul (s .three) numerator) (s .two) in
     let quadratic = within-add (within-mul linear numerator) (s .one) in
-    within-weaken (omega arith) (within-add (within-mul quadratic numerator) (s .zero))
-
-pub differences-small : {f : Cubic} {d : Differences} → CubicSmall f → (j : ℕ) → j ≤ 16 → DifferencesAt f (pos j) d → DifferencesSmall d
-differences-small s j h at =
-    let zero = cubic-within s j (omega arith) in
-    let one = cubic-within s (j + 1) (omega arith) in
-    let two = cubic-within s (j + 1 + 1) (omega arith) in
-    let three = cubic-within s (j + 1 + 1 + 1) (omega arith) in
-    let first = within-sub one zero in
-    let next = within-sub two one in
-    let second = within-sub next first in
+    let square = within-mul numerator numerator in
     record {
-      value = rw (at .value) zero;
-      first = rw (at .first) first;
-      second = rw (at .second) second;
-      third = rw (at .third) (within-sub (within-sub (within-sub three two) next) second);
+      value = rw (at .value) (within-weaken (omega arith) (within-add (within-mul quadratic numerator) (s .zero)));
+      first = rw (at .first, first-is f (pos j)) (within-weaken (omega arith)
+          (within-add (within-add (within-mul (within-add (within-add (within-mul (count 3) square) (within-mul (count 3) numerator)) (count 1)) (s .three))
+          (within-mul (within-add (within-mul (count 2) numerator) (count 1)) (s .two))) (s .one)));
+      second = rw (at .second, second-is f (pos j)) (within-weaken (omega arith)
+          (within-add (within-mul (within-add (within-mul (count 6) numerator) (count 6)) (s .three)) (within-mul (count 2) (s .two))));
+      third = rw (at .third, third-is f (pos j)) (within-weaken (omega arith) (within-mul (count 6) (s .three)));
     }
+  where
+    count : (n : ℕ) → Within n (pos n)
+    count n = record { within = le-refl n }

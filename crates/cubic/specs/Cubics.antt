@@ -1,8 +1,9 @@
 -- Cubics of the numerator, and their differences. Assumes nothing.
 use mathlib.Core.Path.{_≡_}
-use Prim.Native.Nat.{_*_, _^_}
+use Prim.Native.Nat.{_*_}
 use lib.IntN.{ℤ, pos, _+ℤ_, _-ℤ_, _*ℤ_}
 use Rattle.integers.specs.Bound.{Within}
+use Rattle.sums.specs.Sums.{greatestSum}
 use Rattle.cubic.specs.declared.Cubic.{Cubic}
 use Rattle.cubic.specs.declared.Differences.{Differences}
 
@@ -10,12 +11,13 @@ use Rattle.cubic.specs.declared.Differences.{Differences}
 abbrev pub cubicSum : Cubic → ℤ → ℤ
 cubicSum f j = ((f .three *ℤ j +ℤ f .two) *ℤ j +ℤ f .one) *ℤ j +ℤ f .zero
 
--- its coefficients where it is the weighted sum of 32-bit numbers: at most the sizes of the factors times 2^31, at factor 16
+-- its coefficients where it is the weighted sum of numbers that are themselves at most weighted sums of 32-bit numbers: at most that times the sizes of
+-- what they are multiplied by, at factor 16
 pub record CubicSmall (f : Cubic) : Type 0 where
-  pub zero : Within (24576 * 2 ^ 31) (f .zero)
-  pub one : Within (1536 * 2 ^ 31) (f .one)
-  pub two : Within (192 * 2 ^ 31) (f .two)
-  pub three : Within (8 * 2 ^ 31) (f .three)
+  pub zero : Within (24576 * greatestSum) (f .zero)
+  pub one : Within (1536 * greatestSum) (f .one)
+  pub two : Within (192 * greatestSum) (f .two)
+  pub three : Within (8 * greatestSum) (f .three)
 
 -- by how much a function grows from a numerator to the next
 abbrev pub growth : (ℤ → ℤ) → ℤ → ℤ
@@ -28,12 +30,12 @@ pub record DifferencesAt (f : Cubic) (j : ℤ) (d : Differences) : Type 0 where
   pub second : d .second ≡ growth (growth (cubicSum f)) j
   pub third : d .third ≡ growth (growth (growth (cubicSum f))) j
 
--- their sizes for a small cubic at a numerator up to 16: its value is within 2^49 up to three numerators on, and each growth within twice as much
+-- their sizes for a small cubic at a numerator up to 16
 pub record DifferencesSmall (d : Differences) : Type 0 where
-  pub value : Within (2 ^ 49) (d .value)
-  pub first : Within (2 ^ 50) (d .first)
-  pub second : Within (2 ^ 51) (d .second)
-  pub third : Within (2 ^ 52) (d .third)
+  pub value : Within (131072 * greatestSum) (d .value)
+  pub first : Within (14408 * greatestSum) (d .first)
+  pub second : Within (1200 * greatestSum) (d .second)
+  pub third : Within (48 * greatestSum) (d .third)
 
 -- each but the last grows by the one after it, and so they are those at the next numerator
 pub record Stepped (d r : Differences) : Type 0 where

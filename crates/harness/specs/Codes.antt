@@ -34,7 +34,7 @@ pub record CodedTransform : Type 0 where
 abbrev pub codedTransform : Transformed → CodedTransform
 codedTransform o = record { answer = code (o .answer); coefficients = o .coefficients; work = o .work }
 
--- the outcome of row zoom, with the code of its answer
+-- the outcome of row zoom or enlarging, with the code of its answer
 pub record CodedValues : Type 0 where
   pub answer : ℤ
   pub values : List ℤ

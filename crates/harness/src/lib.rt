@@ -1,9 +1,9 @@
 // The operations with the C calling convention, for tests and benchmarks in other languages. No part of the library: nothing in the
-// repository but tests/ and bench/ uses it.
+// repository but tests/, bench/ and a drawing of examples/ uses it.
 ghost use mathlib.Core.Path.{_≡_};
 ghost use Prim.Native.Nat.{_+_, _-_, _*_, _^_, min};
 ghost use lib.IntN.{pos, negℤ};
-ghost use Rattle.bspline.specs.Outcomes.{rowTransform, pictureTransform, rowZoom, rowValue, pictureValue};
+ghost use Rattle.bspline.specs.Outcomes.{rowTransform, pictureTransform, rowZoom, pictureEnlargement, rowValue, pictureValue};
 ghost use Rattle.answers.specs.Answers.{number, valued, written};
 ghost use Rattle.wavefile.specs.Outcomes.{wavRead};
 ghost use Rattle.wav.specs.Answers.{answered};
@@ -148,6 +148,27 @@ pub extern "C" fn harness_picture_value(
     let x = Position { k: kx, j: jx };
     let y = Position { k: ky, j: jy };
     valued_code(spline::picture::value(coefficients, shape, x, y, m))
+}
+
+#[no_mangle]
+pub extern "C" fn harness_picture_enlarge(
+    coefficients: &[i32],
+    width: usize,
+    height: usize,
+    pitch: usize,
+    m: usize,
+    values: &mut [i32],
+) -> i64
+    ensures { λ r. ⌜
+        record { answer = r; values = now (values .exit) }
+        ≡ codedValues (pictureEnlargement m (record { width = width; height = height; pitch = pitch }) (now (coefficients .entry)) (now (values .entry))) ⌝ }
+{
+    let shape = Shape {
+        width,
+        height,
+        pitch,
+    };
+    written_code(spline::picture::enlarge(coefficients, shape, m, values))
 }
 
 #[no_mangle]

@@ -49,7 +49,7 @@ pub fn place(words: &[u8], p: Position, m: usize) {
     number(b"/", m)
 }
 
-// The answer of a transform or of row zoom ends a line.
+// The answer of a transform, of row zoom or of enlarging ends a line.
 pub fn written(answer: Written) {
     match answer {
         Written::Count(n) => number(b": ", n),
@@ -70,6 +70,11 @@ pub fn valued(answer: Valued) {
 // The first n samples, or all if there are fewer, so that no caller has to prove that there are n.
 pub fn first_samples(s: &[i16], n: usize) -> &[i16] {
     if n <= s.len() { &s[0..n] } else { s }
+}
+
+// The same of coefficients or values.
+pub fn first_values(v: &[i32], n: usize) -> &[i32] {
+    if n <= v.len() { &v[0..n] } else { v }
 }
 
 // The same of work.

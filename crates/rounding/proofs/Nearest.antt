@@ -1,11 +1,11 @@
 -- The rounding to the nearest by a floor: with `half` added, the quotient rounded down is the one rounded to the nearest. Assumes nothing.
 use mathlib.Core.Path.{_≡_, refl, sym, _∙_}
-use Prim.Native.Nat.{suc, _+_, _<_}
+use Prim.Native.Nat.{ℕ, suc, _+_, _<_}
 use native.Mathlib.Omega.{arith}
 use lib.IntN.{ℤ, pos, negsuc, negℤ, natAbs, _+ℤ_}
 use lib.Signed.{_<ℤ_}
 use mir.Facts.{toZ-ofZ}
-use mir.Syntax.{w64}
+use mir.Syntax.{Width, w64}
 use mir.Val.{SFits, toZ, ofZ}
 use Rattle.integers.specs.Division.{floor}
 use Rattle.integers.specs.Rounding.{nearest, round}
@@ -16,10 +16,14 @@ use Rattle.integers.proofs.Parts.{of-lt}
 use Rattle.integers.proofs.Rounding.{nearest-between}
 use Rattle.rounding.specs.Half.{half}
 
--- the machine reads what the code's `half` has answered, r, as that of the numbers which it was given
+-- the machine reads what a function f of the code has answered, r, as that of the numbers which it was given
+pub answer-read : (f : ℤ → ℕ → ℤ) {w : Width} {a d r : ℤ} → SFits w64 a → SFits w64 d → SFits w r
+    → r ≡ f (toZ w64 (ofZ w64 a)) (natAbs (toZ w64 (ofZ w64 d))) → toZ w (ofZ w r) ≡ f a (natAbs d)
+answer-read f g h k e = toZ-ofZ k ∙ (simp toZ-ofZ at e)
+
 pub half-read : {a d r : ℤ} → SFits w64 a → SFits w64 d → SFits w64 r → r ≡ pos (half (toZ w64 (ofZ w64 a)) (natAbs (toZ w64 (ofZ w64 d)))) →
     toZ w64 (ofZ w64 r) ≡ pos (half a (natAbs d))
-half-read f g h e = toZ-ofZ h ∙ (simp toZ-ofZ at e)
+half-read = answer-read (λ a d. pos (half a d))
 
 -- a with its half added
 abbrev pub before-floor : ℤ → ℤ → ℤ

@@ -13,10 +13,14 @@ use Rattle.sums.specs.declared.rows.Four.{Four}
 abbrev pub listed : Four → List ℤ
 listed f = f .before ∷ f .here ∷ f .after ∷ f .beyond ∷ []
 
+-- the greatest size of a weighted sum of 32-bit numbers: 24,576 is the weights' total at factor 16
+abbrev pub greatestSum : ℕ
+greatestSum = 24576 * 2 ^ 31
+
 -- weights and numbers whose products and sums fit 64 bits: the weights' total is at most that of factor 16, the numbers are at most such sums
 pub record Summable (w c : List ℤ) : Type 0 where
   pub light : sizes w ≤ 24576
-  pub small : AllWithin (24576 * 2 ^ 31) c
+  pub small : AllWithin greatestSum c
 
 -- n numbers from `from` on that lie in a buffer
 pub record Part (from n : ℕ) (c : List ℤ) : Type 0 where

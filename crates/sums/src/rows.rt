@@ -2,6 +2,7 @@
 ghost use mathlib.Core.Path.{_≡_};
 ghost use Prim.Native.Nat.{_+_, _^_, _≤_, _<_};
 ghost use lib.IntN.{pos, _-ℤ_};
+ghost use lib.ListN.{length};
 ghost use Rattle.integers.specs.Bound.{Within};
 ghost use Rattle.bspline.specs.Bounds.{AllWithin};
 ghost use Rattle.bspline.specs.Lists.{at};
@@ -20,13 +21,21 @@ pub struct Four {
     pub beyond: i64,
 }
 
+// The coefficient at a place of the buffer, in 64 bits.
+pub fn number_at(c: &[i32], i: usize) -> i64
+    requires { ⌜ i < length (now c) ⌝ }
+    ensures { λ r. ⌜ (r ≡ at (now (c .entry)) i) × Within (2 ^ 31) r ⌝ }
+{
+    c[i] as i64
+}
+
 // The coefficient at the index i - 1 of the n numbers from `from` on, continued past both ends.
 fn number(c: &[i32], from: usize, n: usize, i: usize) -> i64
     requires { ⌜ Part from n (now c) × (i ≤ n + 2) ⌝ }
     ensures { λ r. ⌜ (r ≡ at (now (c .entry)) (from + mirror n (pos i -ℤ pos 1))) × Within (2 ^ 31) r ⌝ }
 {
     let k = mirrored(n, i, 1);
-    c[from + k] as i64
+    number_at(c, from + k)
 }
 
 // The four coefficients that a value right of place k is made of.

@@ -49,11 +49,6 @@ fn detected(answer: Detection) {
     io::write_all(1, b"\n");
 }
 
-// The first n values, or all if there are fewer, so that no caller has to prove that there are n.
-fn first_values(s: &[i32], n: usize) -> &[i32] {
-    if n <= s.len() { &s[0..n] } else { s }
-}
-
 // Finds the onset of (0, 1, 0) at a factor.
 fn find(m: usize, threshold: i32) {
     report::number(b"row of 0 around 1 at factor ", m);
@@ -62,7 +57,7 @@ fn find(m: usize, threshold: i32) {
     spline::row::transform(&[0, 1, 0], &mut coefficients, &mut [0; WORK]);
     let mut values = [0i32; VALUES];
     match spline::row::zoom(&coefficients, m, &mut values) {
-        Written::Count(n) => detected(onset::find(first_values(&values, n), m, threshold)),
+        Written::Count(n) => detected(onset::find(report::first_values(&values, n), m, threshold)),
         Written::Refused(_) => detected(onset::find(&values, m, threshold)),
     }
 }
@@ -77,7 +72,7 @@ fn find_zeros(n: usize, m: usize) {
     report::number(b"row of ", n);
     report::number(b" zeros at factor ", m);
     report::signed(b", threshold ", 0);
-    detected(onset::find(first_values(&zeros(), n), m, 0))
+    detected(onset::find(report::first_values(&zeros(), n), m, 0))
 }
 
 fn main() {

@@ -1,3 +1,2 @@
 -- Laws that belong to no one function.
-pub mod CubicSum
 pub mod RowParts

@@ -1,7 +1,7 @@
 -- The values that row zoom lists, part after part: from place k × m on stand those from k on, at the numerators 0, 1 and so on, since k × m + j has
 -- the quotient k and the remainder j by m. Assumes nothing.
 use mathlib.Core.List.{List}
-use mathlib.Core.Path.{_≡_, sym, ap, _∙_}
+use mathlib.Core.Path.{_≡_, sym}
 use Prim.Native.Nat.{ℕ, _+_, _-_, _*_, _≤_, _<_}
 use native.Mathlib.Nat.{suc-mul, mul-le-mul-right}
 use native.Mathlib.Omega.{arith}
@@ -11,8 +11,7 @@ use lib.ListN.{length}
 use Rattle.bspline.specs.Limits.{longestRow}
 use Rattle.bspline.specs.Lists.{tabulate}
 use Rattle.bspline.specs.Values.{valueInRow, zoomValues}
-use Rattle.bspline.proofs.Lists.{tabulate-length, tabulate-from-zero}
-use Rattle.bspline.proofs.FilledLists.{Filled, part-is, filled-part}
+use Rattle.bspline.proofs.FilledLists.{Filled, filled-table}
 use Rattle.bspline.proofs.Zoom.{zoom-length, zoom-at}
 use Rattle.answers.specs.Limits.{Factor}
 use Rattle.zoom.specs.Listing.{Between}
@@ -21,19 +20,11 @@ use Rattle.zoom.specs.Listing.{Between}
 abbrev pub between : ℕ → List ℤ → ℕ → ℕ → List ℤ
 between m c k n = tabulate (λ j. valueInRow m c (record { k = k; j = j })) 0 n
 
--- they are a part of those that row zoom lists
-between-part : (m : ℕ) (c : List ℤ) (k e : ℕ) → e ≤ k * m + m → e ≤ length (zoomValues m c) →
-    between m c k (e - k * m) ≡ midOf (k * m) (e - k * m) (zoomValues m c)
-between-part m c k e h g =
-    part-is (zoomValues m c) (between m c k (e - k * m)) (k * m) e g (tabulate-length _ 0 (e - k * m))
-    (λ j s. tabulate-from-zero _ (e - k * m) j s ∙ sym (zoom-at m c k j (omega arith) (omega (arith, zoom-length m c))))
-
 -- where they are put from place k × m on, the list is filled up to where they end
 pub part-more : (m : ℕ) (c l : List ℤ) (k e : ℕ) (v : List ℤ) → Filled (zoomValues m c) l (k * m) → k * m ≤ e → e ≤ k * m + m → e ≤ length l →
     v ≡ between m c k (length (midOf (k * m) (e - k * m) l)) → Filled (zoomValues m c) (putMid (k * m) (e - k * m) l v) e
 part-more m c l k e v f h g b q =
-    let room : e ≤ length (zoomValues m c) = omega (arith, f .long) in
-    filled-part e v f h room (q ∙ ap (between m c k) (mid-len (k * m) e l b) ∙ between-part m c k e g room)
+    filled-table e v _ f h b (λ j s. sym (zoom-at m c k j (omega arith) (omega (arith, f .long, zoom-length m c)))) q
 
 -- the part has room for at least one of them, and for no more than m
 pub part-ready : (m : ℕ) (c l : List ℤ) (k e : ℕ) → k < length c → length c ≤ longestRow → Factor m → k * m < e → e ≤ k * m + m → e ≤ length l →

@@ -1,3 +1,2 @@
 -- What the contracts of row zoom cite beside the definitions of `bspline`.
-pub mod Weighted
 pub mod Listing

@@ -7,8 +7,8 @@ ghost use Rattle.bspline.specs.Lists.{tabulate};
 ghost use Rattle.bspline.specs.Values.{valueInRow, zoomCount, zoomValues};
 ghost use Rattle.answers.specs.Limits.{Factor};
 ghost use Rattle.zoom.specs.Listing.{Between};
-use crate::weighted::cubic_of;
-use cubic::quotients::list_cubic;
+use crate::divisors::list_cubic;
+use cubic::weighted::cubic_of;
 use sums::rows::support;
 
 // The values from place k on, at the numerators from 0 up, as many as there is room for.

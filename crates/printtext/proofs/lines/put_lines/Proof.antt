@@ -52,7 +52,7 @@ module _ {values : List ℤ} {from to m : ℕ} {out₀ out : List ℕ} {end : �
   inside =
       let k : p .k ≡ i / m = ap (λ (q : Place). q .k) (d .here) in
       let j : p .j ≡ i % m = ap (λ (q : Place). q .j) (d .here) in
-      (rw k (position-inside m i (asked .some) (omega arith)), rw j (mod-lt i (asked .some)))
+      (rw k (position-inside m longestRow i (asked .some) (omega arith) (omega arith)), rw j (mod-lt i (asked .some)))
 
   room : end + longestLine ≤ length out
   room = omega arith

@@ -9,6 +9,7 @@ use lib.IntN.{ℤ, pos, natAbs}
 use lib.ListN.{length}
 use Rattle.integers.specs.Rounding.{round}
 use Rattle.integers.proofs.Parts.{lt-of}
+use Rattle.bspline.proofs.Bounds.{all-weaken}
 use Rattle.bspline.proofs.Lists.{tabulate-same}
 use Rattle.bspline.proofs.Weights.{cubed, weighted-within, value-between}
 use Rattle.cubic.specs.Cubics.{cubicSum}
@@ -20,7 +21,7 @@ support-requires : tie.Need-support-requires
 support-requires c κs = search needs
 
 cubic-of-requires : tie.Need-cubic-of-requires
-cubic-of-requires c κs = search needs
+cubic-of-requires c κs = (all-weaken (omega arith) (c .support .ensures .1), c .before .pre .factor .small)
 
 module _ (c : tie.After-cubic-of) where
   abbrev start : tie.Start
@@ -35,13 +36,13 @@ module _ (c : tie.After-cubic-of) where
       let sum = weighted-within m j (2 ^ 31) _ (omega (arith, h, start .pre .room)) (c .before .support .ensures .1) in
       rw (c .cubic-of .ensures .0 .sums j) (omega (arith, sum))
 
-  fillable : Fillable (c .cubic-of .result) (pos (96 * m ^ 3)) (start .args .values .now)
+  fillable : Fillable (c .cubic-of .result) (pos (96 * m ^ 3)) 0 (start .args .values .now)
   fillable =
       let factor = start .pre .factor in
       record {
         small = c .cubic-of .ensures .1;
         above = lt-of (omega (arith, one-le-pow 3 m (factor .some)));
-        divisor = omega (arith, cubed m, mul-le-mul (mul-le-mul (factor .small) (factor .small)) (factor .small));
+        unit = omega (arith, cubed m, mul-le-mul (mul-le-mul (factor .small) (factor .small)) (factor .small));
         room = omega (arith, start .pre .room, factor .small);
         size = size;
       }

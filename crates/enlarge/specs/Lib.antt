@@ -1,0 +1,2 @@
+-- What the contracts of enlarging cite beside the definitions of `bspline`.
+pub mod Rows
