@@ -1,19 +1,19 @@
 -- `enlarge::picture::enlarge` meets its contract: each refusal is the first test that holds, and where none does the part of the value buffer that is
 -- lent becomes the values of the enlarged picture. Assumes nothing.
 use mathlib.Core.Bool.{false}
+use mathlib.Core.List.{[], _∷_}
 use mathlib.Core.Path.{_≡_, sym, ap, _∙_}
 use Prim.Native.Nat.{ℕ}
 use borrow.Author.Needs.{needs}
-use borrow.Author.Tests.{lt-ltb, le-ltb}
 use lib.ListN.{length}
 use lib.Seq.{length-take-le}
 use Rattle.bspline.specs.Limits.{greatestFactor}
 use Rattle.bspline.specs.Outcomes.{pictureEnlargement}
 use Rattle.bspline.specs.PictureLayout.{Shape}
-use Rattle.bspline.specs.Refusals.{outside, badSides, badCoefficients}
+use Rattle.bspline.specs.Refusals.{outside, badSides, badCoefficients, refusal-3, refusal-4-coefficients, refusal-7}
 use Rattle.bspline.specs.Values.{enlargedValues}
-use Rattle.bspline.proofs.Enlargement.{enlarged-length}
-use Rattle.bspline.proofs.Refusals.{coefficients-packed}
+use Rattle.bspline.proofs.Enlargement.{enlarged-length, enlargement-number}
+use Rattle.bspline.proofs.Refusals.{Passed, coefficients-packed}
 use Rattle.answers.specs.Answers.{described}
 use Rattle.answers.specs.Limits.{GoodSides}
 use Rattle.answers.proofs.WithinLimits.{factor, good-sides}
@@ -77,24 +77,24 @@ module _ (c : tie.Else3) where
   good-factor : outside greatestFactor m ≡ false
   good-factor = sym (c .before .bad-factor .ensures) ∙ c .if3 .left
 
+  -- so the count of values and the room decide
+  passed : Passed (refusal-3 (d whole) ∷ refusal-4-coefficients (d whole) (start whole .args .coefficients .now) ∷ refusal-7 m ∷ [])
+  passed = (sides whole, (fit numbered, (good-factor, tt)))
+
 enlarged-count-requires : tie.Need-enlarged-count-requires
 enlarged-count-requires c κs = (factor _ (good-factor c), good (whole c))
 
--- the count that is computed is that of the definition
 returns-4 : tie.Need-returns-4
-unfolding pictureEnlargement
 returns-4 c =
     let n = c .before in
-    let f = n .before in
-    simp (sides (whole f), fit (numbered f), good-factor f, sym (n .enlarged-count .ensures), lt-ltb _ _ (c .if4 .taken))
+    sym (enlargement-number _ _ _ _ (passed (n .before)) .0 (rw (n .enlarged-count .ensures) at (c .if4 .taken)))
 
 returns-5 : tie.Need-returns-5
-unfolding pictureEnlargement
 returns-5 c =
     let t = c .before in
     let n = t .before in
-    let f = n .before in
-    simp (sides (whole f), fit (numbered f), good-factor f, sym (n .enlarged-count .ensures), le-ltb _ _ (t .if4 .left), lt-ltb _ _ (c .if5 .taken))
+    let same = n .enlarged-count .ensures in
+    sym (enlargement-number _ _ _ _ (passed (n .before)) .1 (rw same at (t .if4 .left)) (rw same at (c .if5 .taken)))
 
 slice-relend-prefix-list-rows : tie.Need-slice-relend-prefix-list-rows
 slice-relend-prefix-list-rows c = search needs
@@ -116,23 +116,18 @@ same-length : tie.Need-same-length
 same-length c = search needs
 
 returns-6 : tie.Need-returns-6
-unfolding pictureEnlargement
 returns-6 c =
     let t = c .before .before .before in
     let n = t .before .before in
     let f = n .before in
     let a = start (whole f) .args in
-    let packed = coefficients-packed (d (whole f)) _ (fit (numbered f)) .0 in
-    simp (
-      sides (whole f),
-      fit (numbered f),
-      good-factor f,
-      sym (n .enlarged-count .ensures),
-      le-ltb _ _ (t .before .if4 .left),
-      le-ltb _ _ (t .if5 .left),
-      c .before .list-rows .ensures ∙ ap (λ e. enlargedValues (m f) e (a .coefficients .now)) (sym packed),
-      enlarged-length,
-    )
+    let same = n .enlarged-count .ensures in
+    let made =
+    c .before .list-rows .ensures
+    ∙ ap (λ e. enlargedValues (a .m) e (a .coefficients .now)) (sym (coefficients-packed (d (whole f)) _ (fit (numbered f)) .0)) in
+    let law =
+    enlargement-number (a .m) (d (whole f)) (a .coefficients .now) (a .values .now) (passed f) .2 (rw same at (t .before .if4 .left)) (rw same at (t .if5 .left)) in
+    rw (made, same) (sym (rw (enlarged-length (a .m) (d (whole f)) (a .coefficients .now)) at law))
 
 pub enlarge-spec : {M : Type 1} → statement M
 enlarge-spec =
