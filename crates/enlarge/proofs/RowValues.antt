@@ -24,7 +24,7 @@ use Rattle.sums.proofs.Divisors.{picture-divisible}
 use Rattle.columns.specs.declared.Starts.{Starts}
 use Rattle.columns.proofs.ColumnSums.{columns-fewer}
 use Rattle.places.specs.Places.{valuesBetween, Continues, Listable}
-use Rattle.enlarge.specs.Rows.{rowValue, RowReady}
+use Rattle.enlarge.specs.Rows.{valueAlong, RowReady}
 
 -- the numbers from the index k - 1 on, continued past both ends
 abbrev pub around : ℕ → (ℕ → ℤ) → ℕ → ℕ → ℤ
@@ -42,7 +42,7 @@ around-four n f k a =
 
 -- a value of the numbers around place k is that of the row at the place k × m further on
 pub between-row : (m n : ℕ) (f : ℕ → ℤ) (k d count : ℕ) → 0 < m →
-    valuesBetween m (around n f k) d count ≡ tabulate (λ j. rowValue m n f d (k * m + j)) 0 count
+    valuesBetween m (around n f k) d count ≡ tabulate (λ j. valueAlong m n f d (k * m + j)) 0 count
 unfolding valuesBetween rowSum
 between-row m n f k d count some = tabulate-same _ _ 0 count (λ i h. each i)
   where

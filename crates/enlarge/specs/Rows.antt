@@ -14,13 +14,13 @@ use Rattle.answers.specs.Limits.{Factor, GoodSides}
 use Rattle.columns.specs.declared.Starts.{Starts}
 use Rattle.columns.specs.Columns.{Columns}
 
--- the i-th value of a row of n numbers, at i/m
-abbrev pub rowValue : ℕ → ℕ → (ℕ → ℤ) → ℕ → ℕ → ℤ
-rowValue m n f divisor i = round (rowSum m n f (zoomPosition m i)) divisor
+-- the i-th value along a row of n numbers, at i/m
+abbrev pub valueAlong : ℕ → ℕ → (ℕ → ℤ) → ℕ → ℕ → ℤ
+valueAlong m n f divisor i = round (rowSum m n f (zoomPosition m i)) divisor
 
 -- so many of them, from one on
-abbrev pub rowValues : ℕ → ℕ → (ℕ → ℤ) → ℕ → ℕ → ℕ → List ℤ
-rowValues m n f divisor from count = tabulate (rowValue m n f divisor) from count
+abbrev pub valuesAlong : ℕ → ℕ → (ℕ → ℤ) → ℕ → ℕ → ℕ → List ℤ
+valuesAlong m n f divisor from count = tabulate (valueAlong m n f divisor) from count
 
 -- four rows of a picture, weights that are those of a numerator, and a factor
 pub record RowReady (width : ℕ) (starts : Starts) (w : List ℤ) (m : ℕ) (c : List ℤ) : Type 0 where

@@ -7,7 +7,7 @@ ghost use Rattle.bspline.specs.Values.{enlarged, enlargedValues, valueInPicture
 ghost use Rattle.bspline.specs.Lists.{tabulate};
 ghost use Rattle.columns.specs.Columns.{columnSum};
 ghost use Rattle.sums.specs.Weights.{weighed};
-ghost use Rattle.enlarge.specs.Rows.{Ready, RowReady, rowValues};
+ghost use Rattle.enlarge.specs.Rows.{Ready, RowReady, valuesAlong};
 use answers::counts::zoom_count;
 use columns::Starts;
 use columns::column_sums;
@@ -23,7 +23,7 @@ use sums::weights::picture_divisor;
 // before the last.
 fn list_before(c: &[i32], width: usize, starts: Starts, w: Weights, m: usize, values: &mut [i32])
     requires { ⌜ RowReady width starts (weighed w) m (now c) × (length (now values) ≡ (width - 1) * m) ⌝ }
-    ensures { λ _. ⌜ now (values .exit) ≡ rowValues m width (columnSum (weighed w) starts (now (c .entry))) (576 * m ^ 6) 0 ((width - 1) * m) ⌝ }
+    ensures { λ _. ⌜ now (values .exit) ≡ valuesAlong m width (columnSum (weighed w) starts (now (c .entry))) (576 * m ^ 6) 0 ((width - 1) * m) ⌝ }
 {
     if width == 1 {
         return;
@@ -39,7 +39,7 @@ fn list_before(c: &[i32], width: usize, starts: Starts, w: Weights, m: usize, va
 // The value at the last place of a row.
 fn list_last(c: &[i32], width: usize, starts: Starts, w: Weights, m: usize, values: &mut [i32])
     requires { ⌜ RowReady width starts (weighed w) m (now c) × (length (now values) ≡ 1) ⌝ }
-    ensures { λ _. ⌜ now (values .exit) ≡ rowValues m width (columnSum (weighed w) starts (now (c .entry))) (576 * m ^ 6) ((width - 1) * m) 1 ⌝ }
+    ensures { λ _. ⌜ now (values .exit) ≡ valuesAlong m width (columnSum (weighed w) starts (now (c .entry))) (576 * m ^ 6) ((width - 1) * m) 1 ⌝ }
 {
     let sums = column_sums(c, width, starts, w, width - 1);
     values[0] = round_narrow(dot(weights_of(m, 0), sums), picture_divisor(m));
@@ -48,7 +48,7 @@ fn list_last(c: &[i32], width: usize, starts: Starts, w: Weights, m: usize, valu
 // All values of a row.
 fn list_row(c: &[i32], width: usize, starts: Starts, w: Weights, m: usize, values: &mut [i32])
     requires { ⌜ RowReady width starts (weighed w) m (now c) × (length (now values) ≡ zoomCount m width) ⌝ }
-    ensures { λ _. ⌜ now (values .exit) ≡ rowValues m width (columnSum (weighed w) starts (now (c .entry))) (576 * m ^ 6) 0 (zoomCount m width) ⌝ }
+    ensures { λ _. ⌜ now (values .exit) ≡ valuesAlong m width (columnSum (weighed w) starts (now (c .entry))) (576 * m ^ 6) 0 (zoomCount m width) ⌝ }
 {
     let last = (width - 1) * m;
     list_before(c, width, starts, w, m, &mut values[..last]);

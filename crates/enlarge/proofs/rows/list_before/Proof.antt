@@ -15,7 +15,7 @@ use Rattle.bspline.proofs.FilledLists.{Filled, filled-none, filled-front, fille
 use Rattle.bspline.proofs.Lists.{tabulate-length, tabulate-from-zero}
 use Rattle.sums.specs.Weights.{weighed}
 use Rattle.columns.specs.Columns.{columnSum}
-use Rattle.enlarge.specs.Rows.{rowValue, rowValues}
+use Rattle.enlarge.specs.Rows.{valueAlong, valuesAlong}
 use Rattle.enlarge.proofs.RowValues.{around, between-row, from-left, at-right, listable}
 use Rattle.enlarge.proofs.rows.list_before.Statement.{statement}
 use Rattle.enlarge.proofs.rows.list_before.Tie as tie
@@ -32,10 +32,10 @@ module _ (s : tie.Start) where
   numbers = columnSum (weighed (s .args .w)) (s .args .starts) (s .args .c .now)
 
   abbrev value : ℕ → ℤ
-  value = rowValue m width numbers (576 * m ^ 6)
+  value = valueAlong m width numbers (576 * m ^ 6)
 
   abbrev target : List ℤ
-  target = rowValues m width numbers (576 * m ^ 6) 0 ((width - 1) * m)
+  target = valuesAlong m width numbers (576 * m ^ 6) 0 ((width - 1) * m)
 
   long : length (s .args .values .now) ≡ length target
   long = s .pre .1 ∙ sym (tabulate-length value 0 ((width - 1) * m))

@@ -15,7 +15,7 @@ use Rattle.bspline.proofs.FilledLists.{Filled, filled-front, filled-table, fill
 use Rattle.bspline.proofs.Lists.{tabulate-length, tabulate-from-zero}
 use Rattle.sums.specs.Weights.{weighed}
 use Rattle.columns.specs.Columns.{columnSum}
-use Rattle.enlarge.specs.Rows.{rowValue}
+use Rattle.enlarge.specs.Rows.{valueAlong}
 use Rattle.enlarge.proofs.rows.list_row.Statement.{statement}
 use Rattle.enlarge.proofs.rows.list_row.Tie as tie
 
@@ -31,7 +31,7 @@ module _ (s : tie.Start) where
   last = (width - 1) * m
 
   abbrev value : ℕ → ℤ
-  value = rowValue m width (columnSum (weighed (s .args .w)) (s .args .starts) (s .args .c .now)) (576 * m ^ 6)
+  value = valueAlong m width (columnSum (weighed (s .args .w)) (s .args .starts) (s .args .c .now)) (576 * m ^ 6)
 
   abbrev target : List ℤ
   target = tabulate value 0 (zoomCount m width)
