@@ -1,5 +1,5 @@
-//! The operations of the library, by its C functions: a slice passes as a pointer and a length. `run --before` makes a crate of a copy of this
-//! file for an earlier version of the library; `inline` is for the calls of that crate to be like those of this module.
+//! The operations of the library, by its C functions: a slice passes as a pointer and a length, an array as a pointer. `run --before` makes a
+//! crate of a copy of this file for an earlier version of the library; `inline` is for the calls of that crate to be like those of this module.
 
 extern "C" {
     fn harness_row_transform(
@@ -78,6 +78,10 @@ extern "C" {
         position: *mut f64,
         height: *mut f64,
     ) -> i64;
+
+    fn harness_announce(waiting: *mut bool, last: *mut usize, station: usize) -> usize;
+
+    fn harness_turn(waiting: *mut bool, last: *mut usize) -> usize;
 }
 
 #[inline]
@@ -224,4 +228,16 @@ pub fn onset_find(
             height,
         )
     }
+}
+
+#[inline]
+pub fn announce(waiting: &mut [bool; 16], last: &mut usize, station: usize) -> usize {
+    // SAFETY: the function reads and writes sixteen marks, which are lent mutably, and the number.
+    unsafe { harness_announce(waiting.as_mut_ptr(), last, station) }
+}
+
+#[inline]
+pub fn turn(waiting: &mut [bool; 16], last: &mut usize) -> usize {
+    // SAFETY: as above.
+    unsafe { harness_turn(waiting.as_mut_ptr(), last) }
 }

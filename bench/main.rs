@@ -3,8 +3,8 @@
 //! `main list` prints the name, the repetitions and the title of each case, parted by tabs. `main NAME` measures one case and prints three
 //! times in microseconds: the library's, that of Rust and that of C. Each is the minimum over the repetitions; each repetition has fresh data,
 //! which all get. The answers of library and Rust and every number of their buffers are compared, and the results of C, which are not exact,
-//! must lie near those of the library. A difference ends the program with status 1. files.rs has the cases that read files, and
-//! onsets.rs those that find an onset.
+//! must lie near those of the library. A difference ends the program with status 1. files.rs has the cases that read files,
+//! onsets.rs those that find an onset and turns.rs those that take turns.
 //!
 //! `main versions` measures the library beside an earlier version of it, if the program is built with one, and prints a line for each case that
 //! both have, its fields parted by tabs: the title, the library's time and that of the earlier version. Both get the same data, as above and
@@ -15,6 +15,9 @@
 //!
 //! `main forms` measures enlarging by the library beside two other forms of it in safe Rust, in the same way, and prints such a line for each case:
 //! the title, the library's time, that of Rust which computes each value by itself, and that of Rust which keeps four whole lines in memory.
+//!
+//! `main turns` measures the taking of turns by the library beside two other forms of it in safe Rust, and prints such lines: the title, the library's
+//! time, that of Rust which changes the state where it is, and that of Rust which does so with marks that are the bits of a word.
 
 /// The operation of the earlier version, if the program is built with one that has the C function of this name: each of its functions is told
 /// by `--cfg 'before="NAME"'`, and the crate `before` calls them.
@@ -38,6 +41,8 @@ mod library;
 mod onset;
 mod onsets;
 mod rust;
+mod turn;
+mod turns;
 mod wave;
 
 use std::hint::black_box;
@@ -741,6 +746,14 @@ fn print_forms() -> Result<(), String> {
     Ok(())
 }
 
+fn print_turns() -> Result<(), String> {
+    for case in &turns::CASES {
+        let [library, in_place, bits] = turns::measure_forms(case)?;
+        println!("{}\t{library:.5}\t{in_place:.5}\t{bits:.5}", case.title);
+    }
+    Ok(())
+}
+
 fn print_versions() -> Result<(), String> {
     let operations = CASES.iter().chain([&ODD_ZOOM, &ODD_VALUE]);
     let operations = operations.map(|c| (c.title, measure_versions(c)));
@@ -748,7 +761,10 @@ fn print_versions() -> Result<(), String> {
     let readings = readings.map(|c| (c.title, files::measure_versions(c)));
     let searches = onsets::CASES.iter();
     let searches = searches.map(|c| (c.title, onsets::measure_versions(c)));
-    for (title, least) in operations.chain(readings).chain(searches) {
+    let turns = turns::CASES.iter();
+    let turns = turns.map(|c| (c.title, turns::measure_versions(c)));
+    let cases = operations.chain(readings).chain(searches).chain(turns);
+    for (title, least) in cases {
         if let Some(least) = least {
             let [library, before] = least?;
             println!("{title}\t{library:.5}\t{before:.5}");
@@ -765,7 +781,11 @@ fn print_cases() {
     let searches = onsets::CASES
         .iter()
         .map(|c| (c.name, c.repetitions, c.title));
-    for (name, repetitions, title) in operations.chain(readings).chain(searches) {
+    let turns = turns::CASES
+        .iter()
+        .map(|c| (c.name, c.repetitions, c.title));
+    let cases = operations.chain(readings).chain(searches).chain(turns);
+    for (name, repetitions, title) in cases {
         println!("{name}\t{repetitions}\t{title}");
     }
 }
@@ -785,12 +805,16 @@ fn main() -> ExitCode {
         measure_bands().map(print_bands)
     } else if word == "forms" {
         print_forms()
+    } else if word == "turns" {
+        print_turns()
     } else if let Some(case) = CASES.iter().find(|case| case.name == word) {
         measure(case).map(print_times)
     } else if let Some(case) = files::CASES.iter().find(|case| case.name == word) {
         files::measure(case).map(print_times)
     } else if let Some(case) = onsets::CASES.iter().find(|case| case.name == word) {
         onsets::measure(case).map(print_times)
+    } else if let Some(case) = turns::CASES.iter().find(|case| case.name == word) {
+        turns::measure(case).map(print_times)
     } else {
         eprintln!("bench: no case '{word}'; 'list' prints them");
         return ExitCode::from(2);

@@ -1,5 +1,7 @@
 //! The operations in safe Rust, for comparison: the same passes over the same buffers with the same results, refusals included.
 
+use std::mem::replace;
+
 const POLE: i64 = 575_416_509;
 pub const MARGIN: usize = 24;
 pub const LONGEST_ROW: usize = 4096;
@@ -9,6 +11,10 @@ pub const LARGEST_FACTOR: usize = 16;
 pub const MOST_VALUES: usize = (LONGEST_ROW - 1) * LARGEST_FACTOR + 1;
 const MOST_PICTURE_VALUES: usize = 1 << 20;
 pub const RUN: usize = 8;
+pub const STATIONS: usize = 16;
+
+/// What a turn answers when nobody waits.
+const NOBODY: usize = usize::MAX;
 
 /// What an operation that gives one value answers to a refusal is this, which is above every value, plus the number of the refusal.
 pub const REFUSED: i64 = 1 << 32;
@@ -734,4 +740,127 @@ pub fn onset_find(
     let greatest = values.iter().fold(i32::MIN, |best, &value| best.max(value));
     *height = f64::from(greatest) / 256.0;
     1
+}
+
+/// Who waits, and who was served last. Like the library's it goes in by value, and the next one comes back beside the answer.
+#[derive(Clone, Copy)]
+struct TurnTaker {
+    waiting: [bool; STATIONS],
+    last: usize,
+}
+
+/// The station after the one served last, going round. A number above 15 counts as 15.
+fn next(last: usize) -> usize {
+    if last < STATIONS - 1 {
+        last + 1
+    } else {
+        0
+    }
+}
+
+impl TurnTaker {
+    /// 0, or the number of the refusal.
+    fn announce(mut self, station: usize) -> (usize, TurnTaker) {
+        let answer = match self.waiting.get_mut(station) {
+            None => 17,
+            Some(mark) => match replace(mark, true) {
+                true => 18,
+                false => 0,
+            },
+        };
+        (answer, self)
+    }
+
+    /// The first station that waits after the one served last, going round, whose mark is cleared, or `NOBODY`.
+    fn turn(mut self) -> (usize, TurnTaker) {
+        let first = next(self.last);
+        let Some(station) = (first..STATIONS).chain(0..first).find(|&k| self.waiting[k]) else {
+            return (NOBODY, self);
+        };
+        self.waiting[station] = false;
+        self.last = station;
+        (station, self)
+    }
+}
+
+/// An announcement, by value. It is not inlined, since an announcement of the library is one call too.
+#[inline(never)]
+pub fn announce(waiting: &mut [bool; STATIONS], last: &mut usize, station: usize) -> usize {
+    let taker = TurnTaker {
+        waiting: *waiting,
+        last: *last,
+    };
+    let (answer, next) = taker.announce(station);
+    *waiting = next.waiting;
+    *last = next.last;
+    answer
+}
+
+/// A turn, by value. It is not inlined, as above.
+#[inline(never)]
+pub fn turn(waiting: &mut [bool; STATIONS], last: &mut usize) -> usize {
+    let taker = TurnTaker {
+        waiting: *waiting,
+        last: *last,
+    };
+    let (answer, next) = taker.turn();
+    *waiting = next.waiting;
+    *last = next.last;
+    answer
+}
+
+/// An announcement that changes the marks where they are: 0, or the number of the refusal. A station that waits is marked again, which changes nothing
+/// and needs no branch. A table of its own has its times, and those of the three functions below.
+#[inline(never)]
+pub fn announce_in_place(waiting: &mut [bool; STATIONS], station: usize) -> usize {
+    let Some(mark) = waiting.get_mut(station) else {
+        return 17;
+    };
+    if replace(mark, true) {
+        18
+    } else {
+        0
+    }
+}
+
+/// A turn that changes the state where it is.
+#[inline(never)]
+pub fn turn_in_place(waiting: &mut [bool; STATIONS], last: &mut usize) -> usize {
+    let first = next(*last);
+    let Some(station) = (first..STATIONS).chain(0..first).find(|&k| waiting[k]) else {
+        return NOBODY;
+    };
+    waiting[station] = false;
+    *last = station;
+    station
+}
+
+/// An announcement where the marks are the bits of a word, that of station 0 the lowest.
+#[inline(never)]
+pub fn announce_bits(waiting: &mut u16, station: usize) -> usize {
+    if station >= STATIONS {
+        return 17;
+    }
+    let before = *waiting;
+    *waiting |= 1 << station;
+    if *waiting == before {
+        18
+    } else {
+        0
+    }
+}
+
+/// A turn on such a word, without a search: rotated, it has the bit of the first station to be looked at lowest, and the zeros below its lowest one
+/// are counted.
+#[inline(never)]
+pub fn turn_bits(waiting: &mut u16, last: &mut usize) -> usize {
+    if *waiting == 0 {
+        return NOBODY;
+    }
+    let first = next(*last);
+    let rotated = waiting.rotate_right(first as u32);
+    let station = (first + rotated.trailing_zeros() as usize) % STATIONS;
+    *waiting &= !(1 << station);
+    *last = station;
+    station
 }

@@ -25,6 +25,7 @@ SLICE = [ctypes.c_void_p, ctypes.c_size_t]
 SIZE = [ctypes.c_size_t]
 VALUE = [ctypes.c_int32]
 FLOAT = [ctypes.c_void_p]  # where it is written
+STATE = 2 * [ctypes.c_void_p]  # where the marks of a turn-taker are, and the station served last
 
 # The parameters of each exported function, which is harness_ and this name. Every one returns 64 bits.
 PARAMETERS = {
@@ -36,6 +37,8 @@ PARAMETERS = {
     "picture_enlarge": SLICE + 4 * SIZE + SLICE,
     "wav_read": 2 * SLICE,
     "onset_find": SLICE + SIZE + VALUE + 2 * FLOAT,
+    "announce": STATE + SIZE,
+    "turn": STATE,
 }
 
 
@@ -183,13 +186,13 @@ def demand_equal(name, found, expected):
 
 
 class Library:
-    """The exported functions by their names."""
+    """The exported functions by their names, and all that was linked."""
 
     def __init__(self, file):
-        library = ctypes.CDLL(file)
+        self.linked = ctypes.CDLL(file)
         self.functions = {}
         for operation, types in PARAMETERS.items():
-            function = getattr(library, "harness_" + operation, None)
+            function = getattr(self.linked, "harness_" + operation, None)
             if function is not None:
                 function.argtypes = types
                 function.restype = ctypes.c_int64
@@ -338,16 +341,17 @@ def file_to_test(count, what, option, command, place, tools=()):
     return os.path.abspath(given) if given else built(count, command, place)
 
 
-def main(label, what, kind, definitions, groups):
+def main(label, what, kind, definitions, groups, sources=()):
     """Tests the library: runs the group of the test's own definitions and then, with a fresh object of this kind of tests each, the groups of
-    every operation."""
+    every operation. The sources are C files of tests/shared that are linked with it."""
     count = Count(label)
     archive = file_to_test(count, what, "library", "rt staticlib harness", "target/staticlib/libharness.a", ("cc",))
     if archive is None:
         count.finish()
     with tempfile.TemporaryDirectory() as room:
         shared = os.path.join(room, f"{label}.so")
-        linked = subprocess.run(["cc", "-shared", "-o", shared, "-Wl,--whole-archive", archive, "-Wl,--no-whole-archive"])
+        files = [os.path.join(ROOT, "tests", "shared", source) for source in sources]
+        linked = subprocess.run(["cc", "-O2", "-fPIC", "-shared", "-o", shared, *files, "-Wl,--whole-archive", archive, "-Wl,--no-whole-archive"])
         if linked.returncode != 0:
             count.add(False, "FAILED: no shared library could be made of the static one")
             count.finish()

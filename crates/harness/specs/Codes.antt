@@ -1,11 +1,14 @@
 -- Answers as signed numbers, as the functions for C return them, beside the buffers that they leave. Assumes nothing.
+use mathlib.Core.Bool.{Bool}
 use mathlib.Core.List.{List}
-use Prim.Native.Nat.{_+_, _-_, _*_, _^_, min}
+use mathlib.Core.Option.{Option, none, some}
+use Prim.Native.Nat.{ℕ, _+_, _-_, _*_, _^_, min}
 use lib.IntN.{ℤ, pos, negℤ}
 use lib.Ieee.{Float}
 use Rattle.bspline.specs.Outcomes.{Transformed, Evaluated}
 use Rattle.bspline.specs.Refusals.{Answer, count, value, refusal}
 use Rattle.onset.specs.Outcomes.{Answer as Search, onset, quiet, refusal as unsearched}
+use Rattle.turns.specs.Outcomes.{Announcement, Reply, accepted, refusal as unannounced, Turn}
 use Rattle.wavefile.specs.Outcomes.{Read, Answer as Reading, clip, refusal as unread}
 
 -- a count as itself, as far as 64 bits with a sign go; a refusal's number negated
@@ -60,3 +63,25 @@ abbrev pub codedSearch : Float → Float → Search → CodedSearch
 codedSearch x h (onset p q) = record { answer = pos 2; position = p; height = q }
 codedSearch x h (quiet q) = record { answer = pos 1; position = x; height = q }
 codedSearch x h (unsearched k) = record { answer = negℤ (pos k); position = x; height = h }
+
+-- the outcome of an announcement or of a turn, with the code of its answer, which is a number from 0 up
+pub record CodedTurn : Type 0 where
+  pub answer : ℕ
+  pub waiting : List Bool
+  pub last : ℕ
+
+-- an announcement that is accepted as 0, a refusal as its number
+abbrev pub replyCode : Reply → ℕ
+replyCode accepted = 0
+replyCode (unannounced k) = k
+
+abbrev pub codedAnnouncement : Announcement → CodedTurn
+codedAnnouncement a = record { answer = replyCode (a .answer); waiting = a .next .waiting; last = a .next .last }
+
+-- the station that a turn names as itself, and none as 64 ones
+abbrev pub nameCode : Option ℕ → ℕ
+nameCode (some k) = k
+nameCode none = 2 ^ 64 - 1
+
+abbrev pub codedTurn : Turn → CodedTurn
+codedTurn t = record { answer = nameCode (t .answer); waiting = t .next .waiting; last = t .next .last }

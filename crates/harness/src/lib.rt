@@ -8,13 +8,18 @@ ghost use Rattle.answers.specs.Answers.{number, valued, written};
 ghost use Rattle.wavefile.specs.Outcomes.{wavRead};
 ghost use Rattle.wav.specs.Answers.{answered};
 ghost use Rattle.onset.specs.Outcomes.{findOnset};
-ghost use Rattle.harness.specs.Codes.{code, valueCode, clipCode, codedTransform, codedValues, codedRead, codedSearch};
+ghost use Rattle.turns.specs.Outcomes.{announce, turn};
+ghost use Rattle.harness.specs.Codes.{code, valueCode, clipCode, codedTransform, codedValues, codedRead, codedSearch, codedAnnouncement, codedTurn};
 use onset::Detection;
 use spline::Position;
 use spline::Refusal;
 use spline::Shape;
 use spline::Valued;
 use spline::Written;
+use turns::Named;
+use turns::Reply;
+use turns::STATIONS;
+use turns::TurnTaker;
 use wav::Reading;
 
 // A count as a signed number. No count is so great that it must be cut.
@@ -202,5 +207,53 @@ pub extern "C" fn harness_onset_find(
             1
         }
         Detection::Refused(r) => refusal_code(r),
+    }
+}
+
+#[no_mangle]
+pub extern "C" fn harness_announce(
+    waiting: &mut [bool; STATIONS],
+    last: &mut usize,
+    station: usize,
+) -> usize
+    ensures { λ r. ⌜
+        record { answer = r; waiting = now (waiting .exit); last = now (last .exit) }
+        ≡ codedAnnouncement (announce (record { waiting = now (waiting .entry); last = now (last .entry) }) station) ⌝ }
+{
+    let taker = TurnTaker {
+        waiting: *waiting,
+        last: *last,
+    };
+    let done = taker.announce(station);
+    let next = done.next;
+    let marks = next.waiting;
+    *waiting = marks;
+    *last = next.last;
+    let answer = done.answer;
+    match answer {
+        Reply::Accepted => 0,
+        Reply::Refused(r) => r.number(),
+    }
+}
+
+#[no_mangle]
+pub extern "C" fn harness_turn(waiting: &mut [bool; STATIONS], last: &mut usize) -> usize
+    ensures { λ r. ⌜
+        record { answer = r; waiting = now (waiting .exit); last = now (last .exit) }
+        ≡ codedTurn (turn (record { waiting = now (waiting .entry); last = now (last .entry) })) ⌝ }
+{
+    let taker = TurnTaker {
+        waiting: *waiting,
+        last: *last,
+    };
+    let done = taker.turn();
+    let next = done.next;
+    let marks = next.waiting;
+    *waiting = marks;
+    *last = next.last;
+    let answer = done.answer;
+    match answer {
+        Named::Station(station) => station,
+        Named::Nobody => 18446744073709551615,
     }
 }
