@@ -1,7 +1,6 @@
 -- Which station comes how many stations after another, going round, and the first that waits in that order. Assumes nothing.
 use mathlib.Core.Bool.{Bool, true, false, cond}
 use mathlib.Core.List.{List}
-use mathlib.Core.Logic.{_⊎_, inl, inr}
 use mathlib.Core.Option.{none, some, Option·none-ne-some, Option·some-injective}
 use mathlib.Core.Path.{_≡_, refl, sym, ap, subst, _∙_}
 use Prim.Native.Nat.{ℕ, zero, suc, _+_, _-_, _%_, _≤_, _<_}
@@ -74,27 +73,28 @@ ahead k from h f = go (decLe from k)
         record { d = stations + k - from; near = omega (arith, n); comes = onward-round (stations + k - from) from k f h (omega arith) }
 
 -- ---- the first that waits
--- where a station waits d stations on, one is found: this one, or one after which it comes less than d stations on
+-- where a station waits d stations on, one is found, and if it is another the station comes less than d stations after the next
 pub record Found (waiting : List Bool) (d from n k : ℕ) : Type 0 where
   pub station : ℕ
   pub first : firstWaiting waiting from n ≡ some station
-  pub progress : (station ≡ k) ⊎ ((e : ℕ) × (e < d) × (onward e (stationAfter station) ≡ k))
+  pub nearer : (station ≡ k → ⊥) → (e : ℕ) × (e < d) × (onward e (stationAfter station) ≡ k)
 
 -- one station is looked at, and waits or does not
 found-more : (waiting : List Bool) (d from n k : ℕ) (b : Bool) → getD waiting from false ≡ b → onward d (stationAfter from) ≡ k →
     Found waiting d (stationAfter from) n k → Found waiting (suc d) from (suc n) k
 unfolding firstWaiting
-found-more waiting d from n k true w e rest = record { station = from; first = rw w; progress = inr (d, omega arith, e) }
-found-more waiting d from n k false w e rest = record { station = rest .station; first = rw (w, rest .first); progress = nearer (rest .progress) }
-  where
-    nearer : {j : ℕ} → (j ≡ k) ⊎ ((f : ℕ) × (f < d) × (onward f (stationAfter j) ≡ k)) → (j ≡ k) ⊎ ((f : ℕ) × (f < suc d) × (onward f (stationAfter j) ≡ k))
-    nearer (inl same) = inl same
-    nearer (inr r) = inr (r .0, omega (arith, r .1), r .2)
+found-more waiting d from n k true w e rest = record { station = from; first = rw w; nearer = λ other. (d, omega arith, e) }
+found-more waiting d from n k false w e rest =
+    record {
+      station = rest .station;
+      first = rw (w, rest .first);
+      nearer = λ other. let r = rest .nearer other in (r .0, omega (arith, r .1), r .2);
+    }
 
 pub first-waits : (waiting : List Bool) (d from n k : ℕ) → onward d from ≡ k → d < n → getD waiting k false ≡ true → Found waiting d from n k
 unfolding firstWaiting
 first-waits waiting d from zero k e h t = absurd (omega arith)
-first-waits waiting zero from (suc n) k e h t = record { station = from; first = rw (e, t); progress = inl e }
+first-waits waiting zero from (suc n) k e h t = record { station = from; first = rw (e, t); nearer = λ other. absurd (other e) }
 first-waits waiting (suc d) from (suc n) k e h t =
     found-more waiting d from n k (getD waiting from false) refl e (first-waits waiting d (stationAfter from) n k e (omega arith) t)
 

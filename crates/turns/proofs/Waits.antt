@@ -1,7 +1,6 @@
 -- How long a station waits: one of the next sixteen turns names it, in every state reached, and no number below sixteen will do. Assumes nothing.
 use mathlib.Core.Bool.{Bool, true, false, not, _&&_, _||_, and-eq-true-iff, false≢true}
 use mathlib.Core.List.{List, [], _∷_}
-use mathlib.Core.Logic.{_⊎_, inl, inr}
 use mathlib.Core.Option.{some}
 use mathlib.Core.Path.{_≡_, refl, sym, ap, subst, _∙_}
 use Prim.Native.Nat.{ℕ, zero, suc, _+_, _≤_, _<_}
@@ -15,7 +14,7 @@ use Rattle.turns.specs.Events.{Event, announcing, turning, after, turns,
 use Rattle.turns.specs.Outcomes.{Announcement, announce, Turn, serve, turn}
 use Rattle.turns.specs.States.{State, fresh, stations, waits, stationAfter, firstWaiting}
 use Rattle.turns.proofs.Cases.{announce-cases}
-use Rattle.turns.proofs.GoingRound.{onward, after-inside, ahead, first-waits}
+use Rattle.turns.proofs.GoingRound.{onward, after-inside, ahead, Found, first-waits}
 use Rattle.turns.proofs.Naming.{found-named}
 use Rattle.turns.proofs.Reached.{sixteen-marks, waiting-station}
 
@@ -57,20 +56,18 @@ within (announcing j ∷ events) s d k t e h enough =
     record { earlier = announcing j ∷ r .earlier; later = r .later; split = ap {B = List Event} (λ l. announcing j ∷ l) (r .split); soon = r .soon; named = r .named }
 within (turning ∷ events) s d k t e h enough =
     let f = first-waits (s .waiting) d (stationAfter (s .last)) stations k e h t in
-    let q = found-named s (f .station) (f .first) in
-    go (f .station) q (f .progress) (λ u c still near. within events u c k still near)
+    go f (found-named s (f .station) (f .first)) (eqb (f .station) k) refl (within events (serve s (some (f .station)) .next))
   where
-    go : (j : ℕ) → turn s ≡ serve s (some j) → (j ≡ k) ⊎ ((c : ℕ) × (c < d) × (onward c (stationAfter j) ≡ k)) →
-        ((u : State) (c : ℕ) → waits u k ≡ true → onward c (stationAfter (u .last)) ≡ k → c < stations → c < turns events → NamedWithin (suc c) u events k) →
+    go : (f : Found (s .waiting) d (stationAfter (s .last)) stations k) → turn s ≡ serve s (some (f .station)) → (b : Bool) → eqb (f .station) k ≡ b →
+        ((c j : ℕ) → waits (serve s (some (f .station)) .next) j ≡ true → onward c (stationAfter (f .station)) ≡ j → c < stations → c < turns events →
+        NamedWithin (suc c) (serve s (some (f .station)) .next) events j) →
         NamedWithin (suc d) s (turning ∷ events) k
-    go j q (inl same) rest = named-now s d j k events q same
-    go j q (inr r) rest = tell (eqb j k) refl
-      where
-        tell : (b : Bool) → eqb j k ≡ b → NamedWithin (suc d) s (turning ∷ events) k
-        tell true same = named-now s d j k events q (eqb-true j k same)
-        tell false other =
-            let still = getD-set-other (s .waiting) j k false false (λ same. eqb-false j k other (sym same)) ∙ t in
-            named-later s d (r .0) j k events q (r .1) (rest (serve s (some j) .next) (r .0) still (r .2) (omega (arith, r .1)) (omega (arith, r .1)))
+    go f q true same rest = named-now s d (f .station) k events q (eqb-true (f .station) k same)
+    go f q false other rest =
+        let apart = eqb-false (f .station) k other in
+        let r = f .nearer apart in
+        let still = getD-set-other (s .waiting) (f .station) k false false (λ same. apart (sym same)) ∙ t in
+        named-later s d (r .0) (f .station) k events q (r .1) (rest (r .0) k still (r .2) (omega (arith, r .1)) (omega (arith, r .1)))
 
 -- ---- sixteen turns are enough, in every state with sixteen marks
 pub named-within-sixteen : (s : State) → length (s .waiting) ≡ stations → (k : ℕ) → waits s k ≡ true → (events : List Event) → 16 ≤ turns events → NamedWithin 16 s events k
