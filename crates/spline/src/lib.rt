@@ -2,7 +2,8 @@
 // either gives its full result or refuses and changes nothing.
 //
 // What an operation computes is defined in the crate `bspline` (specs/); the crate `answers` reads the enums and structs as its answers and
-// descriptions. The operations are written and proved in the crates `transforms`, `values`, `zoom` and `enlarge`; callers name them here.
+// descriptions. The operations are written and proved in the crates `row_transform`, `picture_transform`, `values`, `zoom` and `enlarge`;
+// callers name them here.
 pub mod picture;
 pub mod row;
 

@@ -1,4 +1,4 @@
 // The operations on pictures.
 pub use enlarge::picture::enlarge;
-pub use transforms::picture::transform;
+pub use picture_transform::transform;
 pub use values::picture::value;

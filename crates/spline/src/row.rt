@@ -1,4 +1,4 @@
 // The operations on rows.
-pub use transforms::row::transform;
+pub use row_transform::transform;
 pub use values::row::value;
 pub use zoom::row::zoom;

@@ -1,0 +1,2 @@
+-- What the contracts of the picture transform cite beside the definitions of `bspline`.
+pub mod Pictures
