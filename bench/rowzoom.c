@@ -9,7 +9,7 @@
 #include <unistd.h>
 
 #define POLE INT64_C(575416509)
-#define MARGIN 24
+#define MARGIN 20
 #define LONGEST_TEXT 65536
 #define LONGEST_ROW 4096
 #define LARGEST_FACTOR 16

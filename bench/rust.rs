@@ -3,7 +3,7 @@
 use std::mem::replace;
 
 const POLE: i64 = 575_416_509;
-pub const MARGIN: usize = 24;
+pub const MARGIN: usize = 20;
 pub const LONGEST_ROW: usize = 4096;
 pub const LONGEST_SIDE: usize = 512;
 const GREATEST_PITCH: usize = 4096;

@@ -5,7 +5,7 @@ from fractions import Fraction
 from functools import lru_cache
 
 POLE = 575416509  # Z
-MARGIN = 24
+MARGIN = 20
 LONGEST_ROW = 4096
 LONGEST_SIDE = 512
 GREATEST_PITCH = 4096
@@ -51,25 +51,26 @@ def picture_pixels(numbers, width, height, pitch):
 # ----- Transforms -----
 
 
-# The roundings of R forward, of R backward and of the coefficient. Others are given only to show that a case tells them from these.
+# The roundings of R forward, of R backward and of the coefficient. Others, and other margins than MARGIN, are given only to show that a case tells
+# them from these.
 ROUNDINGS = (nearest, nearest, nearest)
 
 
-def recursions(t, roundings=ROUNDINGS):
+def recursions(t, roundings=ROUNDINGS, margin=MARGIN):
     """Both recursions over one line of internal numbers, and the coefficients."""
     forward, backward, last = roundings
     n = len(t)
-    p = {-MARGIN - 1: 0}
-    for k in range(-MARGIN, n + MARGIN):
+    p = {-margin - 1: 0}
+    for k in range(-margin, n + margin):
         p[k] = t[mirrored(k, n)] - forward(POLE * p[k - 1], 2**31)
-    b = {n + MARGIN: 0}
-    for k in range(n + MARGIN - 1, -MARGIN - 1, -1):
+    b = {n + margin: 0}
+    for k in range(n + margin - 1, -margin - 1, -1):
         b[k] = backward(POLE * (p[k] - b[k + 1]), 2**31)
     return p, b, [last(6 * b[k], 16) for k in range(n)]
 
 
-def row_coefficients(samples, roundings=ROUNDINGS):
-    return recursions([65536 * sample for sample in samples], roundings)[2]
+def row_coefficients(samples, roundings=ROUNDINGS, margin=MARGIN):
+    return recursions([65536 * sample for sample in samples], roundings, margin)[2]
 
 
 def column_coefficients(coefficients, roundings=ROUNDINGS):

@@ -13,7 +13,7 @@ pub const GREATEST_PITCH: usize = 4096;
 pub const GREATEST_FACTOR: usize = 16;
 
 // How far past each end of a line the recursions run.
-pub const MARGIN: usize = 24;
+pub const MARGIN: usize = 20;
 
 // How many words of work a line takes beside as many as it has numbers: the two margins.
 pub const MARGINS: usize = 2 * MARGIN;

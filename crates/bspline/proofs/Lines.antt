@@ -8,7 +8,7 @@ use Prim.Native.Nat.{ℕ, zero, suc, _+_, _*_, _≤_, _<_}
 use native.Mathlib.Nat.{add-comm}
 use native.Mathlib.Omega.{arith}
 use lib.IntN.{ℤ, pos, negℤ, _-ℤ_}
-use lib.ListN.{length, getD, take, drop, length-drop, length-map, List·getD-map}
+use lib.ListN.{length, getD, take, drop, length-drop, length-map, List·getD-map, List·getD-eq-default}
 use lib.Seq.{length-take-le, getD-take, getD-drop}
 use Rattle.integers.proofs.Linear.{reify, show}
 use Rattle.bspline.specs.Mirror.{mirror}
@@ -96,14 +96,26 @@ coefficients-same n t u h e =
     (tabulate-same _ _ 0 _ (λ i l. e (mirror n (pos i -ℤ pos margin)) (mirror-below n (pos i -ℤ pos margin) h)))
 
 -- ---- the window's two ends, with the specification's own numbers
--- it has 48 numbers more than the line
-pub window-length : (n : ℕ) (t : ℕ → ℤ) → length (window n t) ≡ n + 48
+-- it has 40 numbers more than the line
+pub window-length : (n : ℕ) (t : ℕ → ℤ) → length (window n t) ≡ n + 40
 window-length n t = window-count n t
 
--- it begins with the index -24
-pub window-first : (n : ℕ) (t : ℕ → ℤ) → at (window n t) 0 ≡ t (mirror n (negℤ (pos 24)))
+-- it begins with the index -20
+pub window-first : (n : ℕ) (t : ℕ → ℤ) → at (window n t) 0 ≡ t (mirror n (negℤ (pos 20)))
 window-first n t = window-at n t 0 (omega arith)
 
--- it ends with the index n + 23
-pub window-last : (n : ℕ) (t : ℕ → ℤ) → at (window n t) (n + 47) ≡ t (mirror n (pos (n + 23)))
-window-last n t = window-at n t (n + 47) (omega arith) ∙ ap (λ k. t (mirror n k)) (show (simp reify tt) (omega arith))
+-- it ends with the index n + 19
+pub window-last : (n : ℕ) (t : ℕ → ℤ) → at (window n t) (n + 39) ≡ t (mirror n (pos (n + 19)))
+window-last n t = window-at n t (n + 39) (omega arith) ∙ ap (λ k. t (mirror n k)) (show (simp reify tt) (omega arith))
+
+-- p[-20] is made of t[-20] and of 0, which is p[-21]
+pub forward-start : (n : ℕ) (t : ℕ → ℤ) → at (forward (pos 0) (window n t)) 0 ≡ causal (t (mirror n (negℤ (pos 20)))) (pos 0)
+forward-start n t =
+    forward-at (pos 0) (window n t) 0 (omega (arith, window-count n t)) ∙ ap (λ x. causal x (pos 0)) (window-first n t)
+
+-- b[n + 19] is made of p[n + 19] and of 0, which is b[n + 20]
+pub backward-start : (n : ℕ) (t : ℕ → ℤ) → at (filtered n t) (n + 39) ≡ anticausal (at (forward (pos 0) (window n t)) (n + 39)) (pos 0)
+backward-start n t =
+    let ps = forward (pos 0) (window n t) in
+    backward-at ps (n + 39) (omega (arith, forward-length (pos 0) (window n t), window-count n t))
+    ∙ ap (anticausal (at ps (n + 39))) (List·getD-eq-default (filtered n t) (pos 0) (omega (arith, filtered-length n t)))

@@ -98,10 +98,14 @@ pub kept : (badCoefficients (sides 2 2) 4 ≡ false) × (badCoefficients (sides 
     × (badCoefficients (record { width = 2; height = 2; pitch = 3 }) 4 ≡ true)
 kept = (refl, refl, refl, refl)
 
--- the limits: 4,096 samples, sides of 512, the factor 16, three numbers with 51 words of work, 65,521 values
+-- a line of n numbers takes n + 40 words of work
+pub work-words : (n : ℕ) → workWords n ≡ n + 40
+work-words n = refl
+
+-- the limits: 4,096 samples, sides of 512, the factor 16, 65,521 values
 pub within-limits : (refusal-2 longestRow 4096 ≡ (2 when false)) × (badSides (sides 1 512) ≡ false) × (badSides (sides 512 1) ≡ false)
-    × (outside greatestFactor 1 ≡ false) × (outside greatestFactor 16 ≡ false) × (workWords 3 ≡ 51) × (mostValues ≡ 65521)
-within-limits = (refl, refl, refl, refl, refl, refl, refl)
+    × (outside greatestFactor 1 ≡ false) × (outside greatestFactor 16 ≡ false) × (mostValues ≡ 65521)
+within-limits = (refl, refl, refl, refl, refl, refl)
 
 pub beyond-limits : (refusal-1 0 ≡ (1 when true)) × (refusal-2 longestRow 4097 ≡ (2 when true)) × (badSides (sides 0 1) ≡ true) × (badSides (sides 1 0) ≡ true)
     × (badSides (sides 513 1) ≡ true) × (badSides (sides 1 513) ≡ true) × (outside greatestFactor 0 ≡ true) × (outside greatestFactor 17 ≡ true)
@@ -122,7 +126,7 @@ abbrev position : ℕ → ℕ → Position
 position k j = record { k = k; j = j }
 
 pub rows-refused-first : (rowTransform [] [] [] .answer ≡ refusal 1) × (rowTransform (zeros 4097) [] [] .answer ≡ refusal 2)
-    × (rowTransform (zeros 1) [] [] .answer ≡ refusal 5) × (rowTransform (zeros 1) [] (zeros 49) .answer ≡ refusal 6)
+    × (rowTransform (zeros 3) [] (zeros 42) .answer ≡ refusal 5) × (rowTransform (zeros 3) [] (zeros 43) .answer ≡ refusal 6)
     × (rowZoom 0 [] [] .answer ≡ refusal 1) × (rowZoom 0 (zeros 4097) [] .answer ≡ refusal 2)
     × (rowZoom 0 (zeros 1) [] .answer ≡ refusal 7) × (rowZoom 1 (zeros 1) [] .answer ≡ refusal 9)
     × (rowValue 0 [] (position 1 1) ≡ refusal 1) × (rowValue 0 (zeros 4097) (position 4097 1) ≡ refusal 2) × (rowValue 0 (zeros 1) (position 1 1) ≡ refusal 7)
@@ -137,12 +141,13 @@ row-positions-refused = (refl, refl, refl, refl)
 
 pub pictures-refused-first : (pictureTransform (record { width = 2; height = 0; pitch = 1 }) [] [] [] .answer ≡ refusal 3)
     × (pictureTransform (record { width = 2; height = 2; pitch = 1 }) [] [] [] .answer ≡ refusal 4)
-    × (pictureTransform (sides 1 1) (zeros 1) [] [] .answer ≡ refusal 5) × (pictureTransform (sides 1 1) (zeros 1) [] (zeros 49) .answer ≡ refusal 6)
+    × (pictureTransform (sides 2 3) (zeros 6) [] (zeros 42) .answer ≡ refusal 5) × (pictureTransform (sides 2 3) (zeros 6) [] (zeros 43) .answer ≡ refusal 6)
+    × (pictureTransform (sides 3 2) (zeros 6) [] (zeros 42) .answer ≡ refusal 5) × (pictureTransform (sides 3 2) (zeros 6) [] (zeros 43) .answer ≡ refusal 6)
     × (pictureValue 0 (record { width = 2; height = 0; pitch = 3 }) [] (position 2 1) (position 0 1) ≡ refusal 3)
     × (pictureValue 0 (record { width = 2; height = 2; pitch = 3 }) [] (position 2 1) (position 2 1) ≡ refusal 4)
     × (pictureValue 0 (sides 1 1) (zeros 1) (position 1 1) (position 1 1) ≡ refusal 7)
 unfolding pictureTransform pictureValue
-pictures-refused-first = (refl, refl, refl, refl, refl, refl, refl)
+pictures-refused-first = (refl, refl, refl, refl, refl, refl, refl, refl, refl)
 
 -- of a picture three wide and two high at factor 2: a bad numerator along one side, with a place on the picture or past an edge along the other or the
 -- same, and places past the edges
@@ -170,21 +175,23 @@ unfolding pictureEnlargement
 enlargements-refused-first = (refl, refl, refl, refl, refl, refl, refl, refl, refl, refl)
 
 -- ---- a refused call leaves its buffers as they were, and an accepted one writes its numbers from the start, clears the words of work that it requires
--- and leaves the rest: of one number, in buffers that have room for one more
-abbrev much : ℕ → List ℤ
-much n = replicate (workWords n + 1) (pos 9)
+-- and leaves the rest: of one number, which takes 41 words, and of pictures whose longer side is three, which take 43, in a buffer with room for one
+-- number more and a work slice with eight words more
+abbrev nines : ℕ → List ℤ
+nines n = replicate n (pos 9)
 
 pub buffers-left : (rowTransform [] (pos 7 ∷ []) (pos 9 ∷ []) ≡ record { answer = refusal 1; coefficients = pos 7 ∷ []; work = pos 9 ∷ [] })
-    × (rowTransform (zeros 1) (pos 7 ∷ pos 8 ∷ []) (much 1) ≡ record { answer = count 1; coefficients = pos 0 ∷ pos 8 ∷ []; work = zeros (workWords 1) ++ pos 9 ∷ [] })
+    × (rowTransform (zeros 1) (nines 2) (nines 49) ≡ record { answer = count 1; coefficients = zeros 1 ++ nines 1; work = zeros 41 ++ nines 8 })
     × (pictureTransform (sides 1 0) [] (pos 7 ∷ []) (pos 9 ∷ []) ≡ record { answer = refusal 3; coefficients = pos 7 ∷ []; work = pos 9 ∷ [] })
-    × (pictureTransform (sides 1 1) (zeros 1) (pos 7 ∷ pos 8 ∷ []) (much 1)
-    ≡ record { answer = count 1; coefficients = pos 0 ∷ pos 8 ∷ []; work = zeros (workWords 1) ++ pos 9 ∷ [] })
+    × (pictureTransform (sides 1 1) (zeros 1) (nines 2) (nines 49) ≡ record { answer = count 1; coefficients = zeros 1 ++ nines 1; work = zeros 41 ++ nines 8 })
+    × (pictureTransform (sides 2 3) (zeros 6) (nines 7) (nines 51) .work ≡ zeros 43 ++ nines 8)
+    × (pictureTransform (sides 3 2) (zeros 6) (nines 7) (nines 51) .work ≡ zeros 43 ++ nines 8)
     × (rowZoom 17 (zeros 1) (pos 7 ∷ []) ≡ record { answer = refusal 7; values = pos 7 ∷ [] })
     × (rowZoom 1 (pos 16 ∷ []) (pos 7 ∷ pos 8 ∷ []) ≡ record { answer = count 1; values = pos 1 ∷ pos 8 ∷ [] })
     × (pictureEnlargement 17 (sides 1 1) (zeros 1) (pos 7 ∷ []) ≡ record { answer = refusal 7; values = pos 7 ∷ [] })
     × (pictureEnlargement 1 (sides 1 1) (pos 16 ∷ []) (pos 7 ∷ pos 8 ∷ []) ≡ record { answer = count 1; values = pos 1 ∷ pos 8 ∷ [] })
 unfolding rowTransform rowCoefficients pictureTransform pictureCoefficients firstPass secondPass coefficients forward backward delivered causal anticausal coefficient R rowZoom zoomValues valueInRow rowSum pictureEnlargement enlargedValues raster tabulate valueInPicture pictureSum block weights round mirror
-buffers-left = (refl, refl, refl, refl, refl, refl, refl, refl)
+buffers-left = (refl, refl, refl, refl, refl, refl, refl, refl, refl, refl)
 
 -- ---- the values of an enlarged picture
 -- six coefficients at factor 2 as a picture of 3 × 2, which has 5 × 3 values, and as one of 2 × 3, which has 3 × 5: row after row

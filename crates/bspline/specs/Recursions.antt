@@ -10,7 +10,7 @@ use Rattle.bspline.specs.Lists.{tabulate}
 
 -- how far past each end of the line the recursions run
 abbrev pub margin : ℕ
-margin = 24
+margin = 20
 
 -- Z: the whole number nearest to (2 - √3) × 2^31, the filter's pole without its sign
 abbrev pub Z : ℤ
@@ -20,7 +20,7 @@ Z = pos 575416509
 unfoldable pub R : ℤ → ℤ
 R a = round a (2 ^ 31)
 
--- t[-24], .., t[n + 23]: the line continued past both ends
+-- t[-20], .., t[n + 19]: the line continued past both ends
 abbrev pub window : ℕ → (ℕ → ℤ) → List ℤ
 window n t = tabulate (λ i. t (mirror n (pos i -ℤ pos margin))) 0 (n + 2 * margin)
 
@@ -47,7 +47,7 @@ unfoldable pub backward : List ℤ → List ℤ
 backward [] = []
 backward (p ∷ ps) = anticausal p (first (backward ps)) ∷ backward ps
 
--- b[-24], .., b[n + 23], with p[-25] = 0 and b[n + 24] = 0
+-- b[-20], .., b[n + 19], with p[-21] = 0 and b[n + 20] = 0
 abbrev pub filtered : ℕ → (ℕ → ℤ) → List ℤ
 filtered n t = backward (forward (pos 0) (window n t))
 

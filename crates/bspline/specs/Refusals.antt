@@ -57,7 +57,7 @@ badCoefficients d n = not (eqb (d .pitch) (d .width)) || not (eqb n (area d))
 abbrev pub refusal-4-coefficients : Shape → List ℤ → Test
 refusal-4-coefficients d c = 4 when badCoefficients d (length c)
 
--- a work slice shorter than n + 48; for a picture n is the longer side
+-- a work slice shorter than n + 40; for a picture n is the longer side
 abbrev pub refusal-5 : ℕ → List ℤ → Test
 refusal-5 n work = 5 when ltb (length work) (workWords n)
 
