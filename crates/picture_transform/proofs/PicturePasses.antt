@@ -13,11 +13,12 @@ use lib.IntN.{ℤ, pos, _*ℤ_}
 use lib.ListN.{length}
 use Rattle.bspline.specs.PictureLayout.{Shape, packed, area, place, pixel}
 use Rattle.bspline.specs.Lists.{at}
+use Rattle.bspline.specs.Recursions.{coefficients}
 use Rattle.bspline.specs.Transforms.{firstPass, secondPass, pictureCoefficients}
 use Rattle.bspline.proofs.Lines.{coefficients-same}
 use Rattle.bspline.proofs.Ranges.{first-pass-within}
 use Rattle.bspline.proofs.PictureLayout.{raster-length, raster-is, place-below}
-use Rattle.filter.specs.Lines.{Lines, LinesFiltered}
+use Rattle.filter.specs.Lines.{loadedLine, Lines, LinesFiltered}
 use Rattle.buffers.specs.Raised.{RaisedPicture}
 use Rattle.answers.specs.Limits.{GoodSides}
 use Rattle.buffers.proofs.Raising.{raised-pixel, raised-small, raised-loaded}
@@ -30,6 +31,11 @@ column-place : (d : Shape) (x y : ℕ) → x * 1 + d .width * y ≡ place (packe
 column-place d x y = omega (arith, mul-comm (d .width) y)
 
 -- ---- the two passes
+-- a filtered line holds the coefficients of any line t that has its loaded numbers
+line-holds : {count between step n : ℕ} {c₀ c : List ℤ} → LinesFiltered count between step n c₀ c → 0 < n → (t : ℕ → ℤ) (i k : ℕ) → i < count → k < n →
+    ((l : ℕ) → l < n → loadedLine (i * between) step c₀ l ≡ t l) → at c (i * between + step * k) ≡ at (coefficients n t) k
+line-holds f some t i k h g same = f .filtered i k h g ∙ ap (λ (C : List ℤ). at C k) (coefficients-same _ _ t some same)
+
 module _ (d : Shape) (p c₀ : List ℤ) (good : GoodSides d) (r : RaisedPicture d p c₀) where
   raised-length : length c₀ ≡ area d
   raised-length = ap length (r .numbers) ∙ raster-length d _
@@ -52,10 +58,8 @@ module _ (d : Shape) (p c₀ : List ℤ) (good : GoodSides d) (r : RaisedPicture
     unfolding firstPass
     first-pass x y h g =
         ap (at c₁) (sym (row-place d x y))
-        ∙ rows .filtered y x g h
-        ∙ ap (λ (C : List ℤ). at C x)
-        (coefficients-same (d .width) _ _ (good .wide)
-        (λ k l. ap (λ (t : ℤ). pos 16 *ℤ t) (ap (at c₀) (row-place d k y) ∙ raised-pixel r k y l g) ∙ raised-loaded (pixel d p k y)))
+        ∙ line-holds rows (good .wide) _ y x g h
+        (λ k l. ap (λ (t : ℤ). pos 16 *ℤ t) (ap (at c₀) (row-place d k y) ∙ raised-pixel r k y l g) ∙ raised-loaded (pixel d p k y))
 
     -- and the columns can be filtered
     pub columns-ready : Lines (d .width) 1 (d .width) (d .height) c₁
@@ -75,9 +79,7 @@ module _ (d : Shape) (p c₀ : List ℤ) (good : GoodSides d) (r : RaisedPicture
       unfolding secondPass
       second-pass x y h g =
           ap (at c₂) (sym (column-place d x y))
-          ∙ columns .filtered x y h g
-          ∙ ap (λ (C : List ℤ). at C y)
-          (coefficients-same (d .height) _ _ (good .high) (λ k l. ap (λ (t : ℤ). pos 16 *ℤ t) (ap (at c₁) (column-place d x k) ∙ first-pass x k h l)))
+          ∙ line-holds columns (good .high) _ x y h g (λ k l. ap (λ (t : ℤ). pos 16 *ℤ t) (ap (at c₁) (column-place d x k) ∙ first-pass x k h l))
 
       -- which is the definition, place by place
       pub picture-filtered : c₂ ≡ pictureCoefficients d p
