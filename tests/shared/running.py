@@ -17,6 +17,8 @@ import tempfile
 import time
 import traceback
 from fractions import Fraction
+from importlib.machinery import SourceFileLoader
+from importlib.util import module_from_spec, spec_from_loader
 
 SECONDS_FOR_A_GROUP = 60
 ROOT = os.path.dirname(os.path.dirname(os.path.dirname(os.path.abspath(__file__))))
@@ -302,6 +304,14 @@ def run_group(name, group, tests, count):
         count.say(f"FAILED: ended by signal {-status} ({signal.Signals(-status).name}) in the case: {tests.said()}")
     seconds = f"{time.monotonic() - start:.1f} s"
     count.add(status == 0, f"{name}: passed ({tests.said()}{seconds})" if status == 0 else f"{name}: FAILED ({seconds})")
+
+
+def example(name):
+    """A script of examples/, as a module."""
+    loader = SourceFileLoader(name, os.path.join(ROOT, "examples", name))
+    module = module_from_spec(spec_from_loader(loader.name, loader))
+    loader.exec_module(module)
+    return module
 
 
 def up_to_date(file):

@@ -4,8 +4,8 @@
 -- the neighbours of an index read the neighbours of its place. A row of one number, whose period is 0, is no exception.
 -- Assumes nothing.
 use mathlib.Core.Logic.{_⊎_, inl, inr}
-use mathlib.Core.Path.{_≡_, refl}
-use Prim.Native.Nat.{ℕ, _-_, _*_, _≤_, _<_}
+use mathlib.Core.Path.{_≡_, refl, ap}
+use Prim.Native.Nat.{ℕ, zero, suc, _-_, _*_, _≤_, _<_}
 use native.Mathlib.Decide.{ℕ-discrete, decLe}
 use native.Mathlib.Omega.{arith}
 use borrow.Author.Tests.{lt-ltb, le-ltb, ne-eqb, eq-eqb}
@@ -121,6 +121,33 @@ mirror-is n k m h e = mirror-unique n k m h (shifted (pos 0) (show (simp reify t
 -- the same of a natural number
 pub mirror-own : (n m : ℕ) → m < n → mirror n (pos m) ≡ m
 mirror-own n m h = mirror-is n (pos m) m h refl
+
+-- two places beside each other
+pub record Neighbours (k l : ℕ) : Type 0 where
+  pub above : l ≤ suc k
+  pub below : k ≤ suc l
+  pub other : k ≡ l → ⊥
+
+one-after : {k l : ℕ} → l ≡ suc k → Neighbours k l
+one-after e = record { above = omega arith; below = omega arith; other = λ same. omega arith }
+
+one-before : {k l : ℕ} → suc l ≡ k → Neighbours k l
+one-before e = record { above = omega arith; below = omega arith; other = λ same. omega arith }
+
+-- the indices before and after a place read places beside it, where a row has two numbers or more: the index before 0 reads 1, and the one after the last
+-- place the last but one
+pub mirror-before : (n k : ℕ) → 1 < n → k < n → Neighbours k (mirror n (pos k -ℤ pos 1))
+mirror-before n zero h l = one-after (mirror-unique n (pos 0 -ℤ pos 1) 1 h (reflected (pos 0) (show (simp reify tt) (omega arith))))
+mirror-before n (suc k) h l = one-before (ap suc (mirror-is n (pos (suc k) -ℤ pos 1) k (omega arith) (show (simp reify tt) (omega arith))))
+
+pub mirror-after : (n k : ℕ) → 1 < n → k < n → Neighbours k (mirror n (pos k +ℤ pos 1))
+mirror-after n k h l = go (decLe n (suc k))
+  where
+    go : Dec (n ≤ suc k) → Neighbours k (mirror n (pos k +ℤ pos 1))
+    go (no d) = one-after (mirror-is n (pos k +ℤ pos 1) (suc k) (omega arith) (show (simp reify tt) (omega arith)))
+    go (yes d) =
+        let last = mirror-unique n (pos k +ℤ pos 1) (k - 1) (omega arith) (reflected (pos 1) (show (simp reify tt) (omega arith))) in
+        one-before (omega (arith, last))
 
 -- alike indices read the same place: the row is continued with its period, and with symmetry about place 0
 pub mirror-respects : (n : ℕ) (k l : ℤ) → 0 < n → Alike (period n) k l → mirror n k ≡ mirror n l

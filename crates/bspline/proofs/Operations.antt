@@ -21,7 +21,7 @@ use Rattle.bspline.specs.Transforms.{rowCoefficients, pictureCoefficient
 use Rattle.bspline.specs.Values.{Position, zoomPosition, zoomCount, zoomValues, enlarged, enlargedValues, valueInRow, valueInPicture, RowValueAccurate, PictureValueAccurate}
 use Rattle.bspline.proofs.Enlargement.{enlarged-length, enlarged-at}
 use Rattle.bspline.proofs.Lists.{tabulate-from-zero}
-use Rattle.bspline.proofs.OffData.{row-value-number, picture-value-number}
+use Rattle.bspline.proofs.OffData.{past-end-beyond, row-value-number, picture-value-number}
 use Rattle.bspline.proofs.PictureLayout.{place-below}
 use Rattle.bspline.proofs.Refusals.{Passed, judged-accepted, one-to, inside, sides-within, numerator-below}
 use Rattle.bspline.proofs.Transforms.{row-length, picture-length}
@@ -55,6 +55,14 @@ value-taken tests v w e =
     let t = judged-accepted (λ (a : Answer). a) tests refusal (value w) (value v) never (sym e) in
     (t .0, let f = t .1 in cc)
 
+-- where row value answers a value the numerator is below the factor, and k + j/m at most n - 1
+pub row-value-on : (m : ℕ) (c : List ℤ) (p : Position) (v : ℤ) → rowValue m c p ≡ value v → (p .j < m) × (p .k * m + p .j ≤ (length c - 1) * m)
+unfolding rowValue
+row-value-on m c p v e =
+    let t = value-taken (rowValueTests m c p) v (valueInRow m c p) e .0 in
+    let below = numerator-below m p (t .1 .1 .1 .0) in
+    (below, ltb-false _ _ (sym (past-end-beyond m (length c) p below) ∙ t .1 .1 .1 .1 .0))
+
 -- row zoom or enlarging that answers a count n has made so many values, no test's condition holds, and the values begin the buffer
 values-taken : (tests : List Test) (q : ℕ) (made buffer vs : List ℤ) (n : ℕ) → length made ≡ q →
     record { answer = count n; values = vs } ≡ judged tests (unevaluated buffer) (evaluated q made buffer) →
@@ -73,6 +81,18 @@ zoom-left m c buffer vs q e =
     let t = values-taken (zoomTests m c buffer) (zoomCount m (length c)) (zoomValues m c) buffer vs q (zoom-length m c) e in
     let range = one-to greatestFactor m (t .0 .1 .1 .0) in
     (range .0, range .1, t .1, t .2)
+
+-- the value that it leaves at place i is what row value answers at i/m
+pub row-zoom-values : (m : ℕ) (c buffer vs : List ℤ) (q : ℕ) → record { answer = count q; values = vs } ≡ rowZoom m c buffer →
+    (i : ℕ) → i < q → rowValue m c (zoomPosition m i) ≡ value (at vs i)
+unfolding rowZoom zoomValues
+row-zoom-values m c buffer vs q e i h =
+    let count = zoomCount m (length c) in
+    let t = values-taken (zoomTests m c buffer) count (zoomValues m c) buffer vs q (zoom-length m c) e .0 in
+    let z = zoom-left m c buffer vs q e in
+    row-value-number m c (zoomPosition m i) (t .0, (t .1 .0, (inside greatestFactor m (z .0) (z .1), tt))) .2
+    (mod-lt i (z .0)) (omega (arith, div-add-mod' i m, z .2))
+    ∙ ap value (sym (tabulate-from-zero _ count i (omega (arith, z .2))) ∙ ap (λ l. at l i) (sym (z .3)) ∙ getD-take q vs i (pos 0) h)
 
 -- enlarging: the same, of a picture that is closely packed and whose sides are in range
 pub enlargement-left : (m : ℕ) (d : Shape) (c buffer vs : List ℤ) (q : ℕ) → record { answer = count q; values = vs } ≡ pictureEnlargement m d c buffer →
@@ -135,8 +155,8 @@ row-taken s buffer work C W n e a =
 
 module _ (s C : List ℤ) (n : ℕ) (taken : RowTaken s C n) where
   -- the n numbers are as many as the samples, and as accurate as in the whole buffer
-  long : length (take n C) ≡ length s
-  long = ap length (taken .begins) ∙ row-length s
+  pub taken-length : length (take n C) ≡ length s
+  taken-length = ap length (taken .begins) ∙ row-length s
 
   near : RowAccurate s (take n C)
   near = record { accurate = λ c solves k h. rw (getD-take n C k (pos 0) (omega (arith, taken .count))) (taken .accurate .accurate c solves k h) }
@@ -148,54 +168,32 @@ module _ (s C : List ℤ) (n : ℕ) (taken : RowTaken s C n) where
       let t = value-taken (rowValueTests m (take n C) p) v (valueInRow m (take n C) p) e in
       let factor = one-to greatestFactor m (t .0 .1 .1 .0) in
       let below = numerator-below m p (t .0 .1 .1 .1 .0) in
-      rw (t .1) (row-value-accurate m (factor .0) s (take n C) p (omega (arith, below)) (omega (arith, taken .some, taken .count)) long near)
+      rw (t .1) (row-value-accurate m (factor .0) s (take n C) p (omega (arith, below)) (omega (arith, taken .some, taken .count)) taken-length near)
 
   -- and at a sample it answers 256 times the sample
   pub row-value-returns : (m k : ℕ) → 0 < m → m ≤ greatestFactor → k < n → rowValue m (take n C) (record { k = k; j = 0 }) ≡ value (pos 256 *ℤ at s k)
   row-value-returns m k some small below =
       let l = take n C in
       row-value-number m l (record { k = k; j = 0 }) (
-        ne-eqb (length l) 0 (λ e. omega (arith, long, taken .some, taken .count)),
-        (le-ltb longestRow (length l) (omega (arith, long, taken .short, taken .count)), (inside greatestFactor m some small, tt)),
-      ) .2 some (sample-within m (length l) k (omega (arith, long, taken .count)))
-      ∙ ap value (sample-returns m some s l long near k (omega (arith, taken .count)))
-
-  -- what row zoom leaves where it answers a count q: the values at the first q positions begin the buffer
-  record Listed (m : ℕ) (vs : List ℤ) (q : ℕ) : Type 0 where
-    factor : (0 < m) × (m ≤ greatestFactor)
-    count : q ≡ zoomCount m n
-    values : (i : ℕ) → i < q → at vs i ≡ valueInRow m (take n C) (zoomPosition m i)
-
-  listed : (m : ℕ) (buffer vs : List ℤ) (q : ℕ) → record { answer = count q; values = vs } ≡ rowZoom m (take n C) buffer → Listed m vs q
-  unfolding zoomValues
-  listed m buffer vs q e =
-      let l = take n C in
-      let t = zoom-left m l buffer vs q e in
-      record {
-        factor = (t .0, t .1);
-        count = t .2 ∙ ap (zoomCount m) (long ∙ sym (taken .count));
-        values = λ i h.
-            sym (getD-take q vs i (pos 0) h)
-            ∙ ap (λ k. at k i) (t .3)
-            ∙ tabulate-from-zero _ (zoomCount m (length l)) i (omega (arith, t .2));
-      }
+        ne-eqb (length l) 0 (λ e. omega (arith, taken-length, taken .some, taken .count)),
+        (le-ltb longestRow (length l) (omega (arith, taken-length, taken .short, taken .count)), (inside greatestFactor m some small, tt)),
+      ) .2 some (sample-within m (length l) k (omega (arith, taken-length, taken .count)))
+      ∙ ap value (sample-returns m some s l taken-length near k (omega (arith, taken .count)))
 
   -- every value that row zoom lists of them is within 19/32
   pub row-zoom-near : (m : ℕ) (buffer vs : List ℤ) (q : ℕ) → record { answer = count q; values = vs } ≡ rowZoom m (take n C) buffer →
       (i : ℕ) → i < q → RowValueAccurate m s (zoomPosition m i) (at vs i)
-  row-zoom-near m buffer vs q e i h =
-      let t = listed m buffer vs q e in
-      rw (t .values i h)
-      (row-value-accurate m (t .factor .0) s (take n C) (zoomPosition m i) (omega (arith, mod-lt i (t .factor .0))) (omega (arith, taken .some, taken .count)) long near)
+  row-zoom-near m buffer vs q e i h = row-value-near m (zoomPosition m i) (at vs i) (row-zoom-values m (take n C) buffer vs q e i h)
 
   -- and the one at the place of a sample is 256 times the sample
   pub row-zoom-returns : (m : ℕ) (buffer vs : List ℤ) (q : ℕ) → record { answer = count q; values = vs } ≡ rowZoom m (take n C) buffer →
       (k : ℕ) → k < n → at vs (k * m) ≡ pos 256 *ℤ at s k
   row-zoom-returns m buffer vs q e k h =
-      let t = listed m buffer vs q e in
-      t .values (k * m) (omega (arith, t .count, sample-within m n k h))
-      ∙ ap (valueInRow m (take n C)) (position-at-sample m k (t .factor .0))
-      ∙ sample-returns m (t .factor .0) s (take n C) long near k (omega (arith, taken .count))
+      let l = take n C in
+      let t = zoom-left m l buffer vs q e in
+      let listed = row-zoom-values m l buffer vs q e (k * m) (omega (arith, t .2, sample-within m (length l) k (omega (arith, taken-length, taken .count)))) in
+      let same = sym listed ∙ ap (rowValue m l) (position-at-sample m k (t .0)) ∙ row-value-returns m k (t .0) (t .1) h in
+      cc
 
 -- ---- pictures
 -- what the transform leaves where it answers a count

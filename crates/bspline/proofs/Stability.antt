@@ -78,35 +78,45 @@ middle x y z g h = omega (arith, abs-mul (pos 4) y, four)
     four : natAbs (pos 4 *ℤ y) ≤ natAbs x + natAbs z + g
     four = show (simp reify tt) (omega (arith, read h (simp reify tt), natAbs-nat x, natAbs-nat z))
 
+-- so v times the number at a place is held down by v times its neighbours and v times the sum, where a bound leaves room for that
+pub held-at : (n v : ℕ) (x : ℕ → ℤ) (h : ℕ → ℕ) (k : ℕ) → k < n →
+    h (mirror n (pos k -ℤ pos 1)) + h (mirror n (pos k +ℤ pos 1)) + v * natAbs (tridiagonal n x (pos k)) ≤ 4 * h k →
+    Held n (λ k. v * natAbs (x k)) h (v * natAbs (tridiagonal n x (pos k))) k
+unfolding tridiagonal
+held-at n v x h k l room = record {
+  i = mirror n (pos k -ℤ pos 1);
+  j = mirror n (pos k +ℤ pos 1);
+  i-below = mirror-below n (pos k -ℤ pos 1) (omega arith);
+  j-below = mirror-below n (pos k +ℤ pos 1) (omega arith);
+  held = rw (mirror-own n k l) (omega (arith, mul-le-mul-left v (middle (x (mirror n (pos k -ℤ pos 1))) (x k) (x (mirror n (pos k +ℤ pos 1))) _ (le-refl _))));
+  room = room;
+}
+
 -- numbers whose 1-4-1 sums are all at most g / u in size are at most g / 2u themselves
 pub stable : (n u : ℕ) (d : ℕ → ℤ) (g : ℕ) → ((k : ℕ) → k < n → u * natAbs (tridiagonal n d (pos k)) ≤ g) → (k : ℕ) → k < n → 2 * (u * natAbs (d k)) ≤ g
-unfolding tridiagonal
-stable n u d g f = compare n (λ k. 2 * (u * natAbs (d k))) (λ k. g) (λ k. 2 * g) (λ k l. inr (at k l))
-  where
-    at : (k : ℕ) → k < n → Held n (λ k. 2 * (u * natAbs (d k))) (λ k. g) (2 * g) k
-    at k l =
-        let i = mirror n (pos k -ℤ pos 1) in let j = mirror n (pos k +ℤ pos 1) in
-        record {
-          i = i;
-          j = j;
-          i-below = mirror-below n (pos k -ℤ pos 1) (omega arith);
-          j-below = mirror-below n (pos k +ℤ pos 1) (omega arith);
-          held = omega (arith, rw (mirror-own n k l) at (f k l), mul-le-mul-left u (middle (d i) (d k) (d j) _ (le-refl _)));
-          room = omega arith;
-        }
+stable n u d g f k l = omega (
+  arith,
+  compare n (λ k. 2 * u * natAbs (d k)) (λ k. g) (λ k. 2 * u * natAbs (tridiagonal n d (pos k)))
+      (λ k l. inr (held-at n (2 * u) d (λ k. g) k l (omega (arith, f k l)))) k l,
+)
+
+-- the sizes of the two sides of an equation
+pub equation-sizes : (n : ℕ) (s c : Fractions) → Solves n s c →
+    (k : ℕ) → k < n → s .den * natAbs (tridiagonal n (c .num) (pos k)) ≡ c .den * (6 * natAbs (s .num k))
+equation-sizes n s c f k l =
+    sym (abs-mul (pos (s .den)) (tridiagonal n (c .num) (pos k)))
+    ∙ ap natAbs (f .equation k l)
+    ∙ abs-mul (pos (c .den)) (pos 6 *ℤ s .num k)
+    ∙ ap (λ v. c .den * v) (abs-mul (pos 6) (s .num k))
 
 -- a solution is at most three times as large as its data: of data up to S / u it is at most 3S / u. (1, -1) has the solution (3, -3)
 pub bounded : (n : ℕ) (s c : Fractions) → Solves n s c → (u S : ℕ) → ((k : ℕ) → k < n → u * natAbs (s .num k) ≤ S * s .den) →
     (k : ℕ) → k < n → u * natAbs (c .num k) ≤ 3 * S * c .den
 bounded n s c f u S b k l = omega (arith, stable n u (c .num) (6 * S * c .den) small k l)
   where
-    -- the sizes of the two sides of an equation
-    sides : (E D : ℕ) (x t : ℤ) → pos E *ℤ x ≡ pos D *ℤ (pos 6 *ℤ t) → E * natAbs x ≡ D * (6 * natAbs t)
-    sides E D x t e = sym (abs-mul (pos E) x) ∙ ap natAbs e ∙ abs-mul (pos D) (pos 6 *ℤ t) ∙ ap (λ v. D * v) (abs-mul (pos 6) t)
-
     small : (k : ℕ) → k < n → u * natAbs (tridiagonal n (c .num) (pos k)) ≤ 6 * S * c .den
     small k l =
-        let e = sides (s .den) (c .den) (tridiagonal n (c .num) (pos k)) (s .num k) (f .equation k l) in
+        let e = equation-sizes n s c f k l in
         le-of-mul-le-mul-left {k = s .den} (omega (arith, ap (λ v. u * v) e, mul-le-mul-left (c .den) (b k l))) (s .above)
 
 -- ---- two solutions

@@ -3,11 +3,11 @@
 -- most B differ by at most 6m³ × B. A picture's sum is the sum along a column of sums along rows, so there the factor is 6m³ × 6m³ = 36m⁶.
 -- At a sample, j = 0, a row's sum is m³ times the 1-4-1 sum. Assumes nothing.
 use mathlib.Core.List.{List, [], _∷_, _++_, map, foldr, append-nil}
-use mathlib.Core.Path.{_≡_, refl, sym, ap, ap₂, subst, _∙_}
+use mathlib.Core.Path.{_≡_, refl, sym, ap, ap₂, subst, fun-ext, _∙_}
 use Prim.Native.Nat.{ℕ, zero, suc, _+_, _-_, _*_, _^_, _≤_, _<_}
 use native.Mathlib.Nat.{add-zero, zero-add, pow-zero, pow-suc, mul-le-mul, mul-le-mul-left, add-sub-of-le}
 use native.Mathlib.Omega.{arith}
-use lib.IntN.{ℤ, pos, natAbs, _+ℤ_, _-ℤ_, _*ℤ_, +ℤ-idl, +ℤ-idr, +ℤ-assoc, *ℤ-zero}
+use lib.IntN.{ℤ, pos, negℤ, natAbs, _+ℤ_, _-ℤ_, _*ℤ_, +ℤ-idl, +ℤ-idr, +ℤ-assoc, *ℤ-zero}
 use lib.ListN.{length, length-map}
 use Rattle.integers.specs.Rounding.{round}
 use Rattle.integers.proofs.Absolute.{abs-add, abs-mul, abs-zero}
@@ -188,6 +188,29 @@ unfolding tabulate
 dot-zeros [] i n = refl
 dot-zeros (b ∷ w) i zero = refl
 dot-zeros (b ∷ w) i (suc n) = ap₂ _+ℤ_ (*ℤ-zero b) (dot-zeros w (suc i) n)
+
+-- the sum is linear in c
+pub sum-linear : (m n : ℕ) (a b : ℤ) (x y : ℕ → ℤ) (p : Position) →
+    rowSum m n (λ i. a *ℤ x i -ℤ b *ℤ y i) p ≡ a *ℤ rowSum m n x p -ℤ b *ℤ rowSum m n y p
+unfolding rowSum
+sum-linear m n a b x y p =
+    ap (λ (f : ℕ → ℤ). dot w (tabulate f 0 4)) (fun-ext (λ i. parts (read x i) (read y i)))
+    ∙ dot-parts a w (read x) (λ i. negℤ b *ℤ read y i +ℤ pos 0) 0 4
+    ∙ ap (λ z. a *ℤ sum x +ℤ z) (dot-parts (negℤ b) w (read y) (λ i. pos 0) 0 4 ∙ ap (λ z. negℤ b *ℤ sum y +ℤ z) (dot-zeros w 0 4))
+    ∙ sym (parts (sum x) (sum y))
+  where
+    w : List ℤ
+    w = weights m (p .j)
+
+    -- what stands in the i-th of the four places, and the sum
+    read : (ℕ → ℤ) → ℕ → ℤ
+    read c i = c (mirror n (pos (p .k + i) -ℤ pos 1))
+
+    sum : (ℕ → ℤ) → ℤ
+    sum c = dot w (tabulate (read c) 0 4)
+
+    parts : (u v : ℤ) → a *ℤ u -ℤ b *ℤ v ≡ a *ℤ u +ℤ (negℤ b *ℤ v +ℤ pos 0)
+    parts u v = ring (a ∷ b ∷ u ∷ v ∷ []) (simp polys tt) tt
 
 -- a sum of sums may begin with either
 dot-exchanged : (v w : List ℤ) (f : ℕ → ℕ → ℤ) (i k n l : ℕ) →

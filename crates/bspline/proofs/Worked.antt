@@ -25,7 +25,7 @@ use Rattle.bspline.specs.Values.{Position, weights, block, rowSum, pictu
 use Rattle.bspline.proofs.Uniqueness.{unique, picture-unique}
 
 -- P 0, .., P (n - 1), the last first
-abbrev Each : ℕ → (ℕ → Type 0) → Type 0
+abbrev pub Each : ℕ → (ℕ → Type 0) → Type 0
 Each zero P = Unit
 Each (suc n) P = P n × Each n P
 
@@ -35,7 +35,7 @@ each zero P e k l = below-none P k l
 each (suc n) P e k l = below-more P n (each n P (e .1)) (e .0) k (omega arith)
 
 -- a row's equations, one after the other
-equations-solve : (n : ℕ) (s c : Fractions) → Each n (Equation n s c) → Solves n s c
+pub equations-solve : (n : ℕ) (s c : Fractions) → Each n (Equation n s c) → Solves n s c
 equations-solve n s c e = record { equation = each n (Equation n s c) e }
 
 -- a picture's, from the picture between

@@ -1,0 +1,2 @@
+-- What the contract of the caller cites.
+pub mod TwoRows
