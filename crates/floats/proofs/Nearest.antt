@@ -18,7 +18,7 @@ use lib.Ieee.Nearest.{closest}
 use lib.Ieee.Order.{drop, kept}
 use lib.Ieee.Scale.{grid, overflow, round-val}
 use lib.Pow.{pow-pos, pow-mono, pow-lt, pow-add}
-use Rattle.floats.proofs.Powers.{pow-back, pow-split}
+use Rattle.integers.proofs.Powers.{pow-back, pow-split}
 use Rattle.floats.proofs.Quotients.{quotient-rounded}
 use Rattle.floats.specs.Fractions.{quotient, apart, Nearest}
 

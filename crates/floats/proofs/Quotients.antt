@@ -14,7 +14,7 @@ use lib.Ieee.Scale.{round-same}
 use lib.Pow.{pow-pos, pow-mono, pow-add}
 use lib.Signed.{nonNeg}
 use Rattle.floats.specs.Fractions.{quotient, Exactly}
-use Rattle.floats.proofs.Powers.{pow-back, pow-split}
+use Rattle.integers.proofs.Powers.{pow-back, pow-split}
 
 -- ---- a division by the values of its operands
 -- a numerator above 0, and a divisor that is not zero

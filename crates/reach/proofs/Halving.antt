@@ -9,9 +9,10 @@ use native.Mathlib.Decide.{ℕ-discrete}
 use native.Mathlib.Nat.{mul-le-mul-left, le-of-mul-le-mul-left, two-pow-succ}
 use native.Mathlib.Omega.{arith}
 use lib.IntN.{ℤ, pos, natAbs, _+ℤ_, _-ℤ_, _*ℤ_}
-use lib.Pow.{pow-pos, pow-mono, pow-add}
+use lib.Pow.{pow-pos, pow-mono}
 use Rattle.integers.proofs.Absolute.{abs-mul}
 use Rattle.integers.proofs.Linear.{reify, show}
+use Rattle.integers.proofs.Powers.{pow-split}
 use Rattle.bspline.specs.Exact.{tridiagonal}
 use Rattle.bspline.specs.Mirror.{mirror}
 use Rattle.bspline.proofs.Comparison.{Held, compare}
@@ -43,11 +44,6 @@ unfolding halved
 halved-next N i k l b =
     let e : N - apart l i ≤ suc (N - apart k i) = omega (arith, apart-next i k l b) in
     omega (arith, pow-mono e, two-pow-succ (N - apart k i))
-
--- 2^N in all
-halved-whole : (N i k : ℕ) → apart k i ≤ N → 2 ^ N ≡ halved N i k * 2 ^ apart k i
-unfolding halved
-halved-whole N i k l = let e : N ≡ N - apart k i + apart k i = omega arith in ap (λ e. 2 ^ e) e ∙ pow-add 2 (N - apart k i) (apart k i)
 
 -- the sum in a row of one number is six times the number
 six-fold : (n : ℕ) (x : ℕ → ℤ) (k : ℕ) → n ≡ 1 → k < n → natAbs (tridiagonal n x (pos k)) ≡ 6 * natAbs (x k)
@@ -114,7 +110,7 @@ module _ (n u : ℕ) (x : ℕ → ℤ) (i g : ℕ)
   falls-off k l = le-of-mul-le-mul-left {k = halved N i k} (omega (
     arith,
     compare n (λ k. v * natAbs (x k)) bound (λ k. v * natAbs (tridiagonal n x (pos k))) each k l,
-    ap (λ z. z * (u * natAbs (x k))) (halved-whole N i k (omega (arith, apart-is k i))),
+    ap (λ z. z * (u * natAbs (x k))) (pow-split (apart k i) N (omega (arith, apart-is k i))),
   )) (pow-pos (N - apart k i))
     where
       at : (k : ℕ) → k < n → Dec (n ≡ 1) → Dec (k ≡ i) →

@@ -2,8 +2,8 @@
 use mathlib.Core.List.{[], _∷_}
 use mathlib.Core.Path.{_≡_, ap}
 use Prim.Native.Nat.{ℕ, suc, _+_, _-_, _*_, _≤_, _<_}
-use native.Mathlib.Nat.{suc-mul, mul-le-mul-right, le-of-mul-le-mul-left}
-use native.Mathlib.Omega.{arith, by-contra}
+use native.Mathlib.Nat.{suc-mul, le-of-suc-le-suc, le-of-mul-le-mul-left, lt-of-mul-lt-mul-right}
+use native.Mathlib.Omega.{arith}
 use lib.IntN.{ℤ, pos, natAbs, _+ℤ_, _-ℤ_, _*ℤ_}
 use Rattle.integers.proofs.Absolute.{abs-mul}
 use Rattle.integers.proofs.Linear.{reify, show}
@@ -30,13 +30,13 @@ apart-next i k l b = omega (arith, apart-is k i, apart-is l i)
 pub places-after : (m k j i g : ℕ) → j < m → i ≤ k → g * m ≤ apart (k * m + j) (i * m) → g ≤ k - i
 places-after m k j i g h l a =
     let e : i + (k - i) ≡ k = omega arith in
-    by-contra g (k - i) (λ u. omega (arith, apart-is (k * m + j) (i * m), ap (λ z. z * m) e, suc-mul (k - i) m, mul-le-mul-right m u))
+    le-of-suc-le-suc (lt-of-mul-lt-mul-right m (omega (arith, apart-is (k * m + j) (i * m), ap (λ z. z * m) e, suc-mul (k - i) m)))
 
 -- between k and k + 1, where i is k + 1 or behind it
 pub places-before : (m k j i g : ℕ) → 0 < j → j < m → k < i → g * m ≤ apart (k * m + j) (i * m) → g ≤ i - suc k
 places-before m k j i g some h l a =
     let e : k + suc (i - suc k) ≡ i = omega arith in
-    by-contra g (i - suc k) (λ u. omega (arith, apart-is (k * m + j) (i * m), ap (λ z. z * m) e, suc-mul (i - suc k) m, mul-le-mul-right m u))
+    le-of-suc-le-suc (lt-of-mul-lt-mul-right m (omega (arith, apart-is (k * m + j) (i * m), ap (λ z. z * m) e, suc-mul (i - suc k) m)))
 
 -- at k
 pub places-at : (m k i g : ℕ) → 0 < m → g * m ≤ apart (k * m + 0) (i * m) → g ≤ apart k i
