@@ -1,6 +1,7 @@
--- Which marks can be kept: from how many places on two splines, and two values, of rows that differ at one sample are as near as is asked; and how the
--- least such number is tested. Assumes nothing.
+-- Which marks can be kept: from how many places on two splines, and two values, of rows that differ at one sample are as near as is asked, and two
+-- coefficients as near as rounding leaves them; and how the least such number is tested. Assumes nothing.
 use mathlib.Core.Bool.{Bool, true, false, not, _&&_, and-eq-true-iff}
+use mathlib.Core.List.{List}
 use mathlib.Core.Path.{_≡_}
 use Prim.Native.Nat.{ℕ, zero, suc, _+_, _*_, _^_, _≤_, _<_}
 use native.Mathlib.Nat.{mul-pos, one-le-pow, mul-le-mul-left, lt-of-mul-lt-mul-left, mul-lt-mul-of-pos-right}
@@ -9,8 +10,9 @@ use borrow.Author.Tests.{ltb-true, ltb-false, le-ltb, not-true}
 use lib.IntN.{ℤ, pos, natAbs, _-ℤ_, _*ℤ_}
 use lib.Pow.{pow-mono}
 use Rattle.bspline.specs.Exact.{Fractions}
+use Rattle.bspline.specs.Lists.{at}
 use Rattle.bspline.specs.Values.{Position, rowSum}
-use Rattle.reach.specs.Reach.{SplinesNear, ValuesNear, splinesStay, valuesStay, LeastPlaces, Row}
+use Rattle.reach.specs.Reach.{apart, CoefficientsNear, SplinesNear, ValuesNear, splinesStay, valuesStay, LeastPlaces, Row}
 
 -- splines that are near enough differ by less than a/b
 pub splines-stay : (g : ℕ) (d : ℤ) (m n : ℕ) (c e : Fractions) (p : Position) → 0 < m → SplinesNear g d m n c e p →
@@ -21,6 +23,12 @@ splines-stay g d m n c e p some near D a b h stay =
     let above : 0 < W = mul-pos (omega (arith, one-le-pow 3 m some)) (mul-pos (c .above) (e .above)) in
     let less : 4 * D * b < 3 * a * 2 ^ g = omega (arith, ltb-true) in
     lt-of-mul-lt-mul-left (3 * 2 ^ g) (omega (arith, mul-le-mul-left b near, mul-le-mul-left (4 * b * W) h, mul-lt-mul-of-pos-right {k = W} less above))
+
+-- coefficients differ by at most 3 units where 8192|d| is less than 2^|k - i|: for any two samples from 29 places on
+pub coefficients-stay : (i : ℕ) (d : ℤ) (C C′ : List ℤ) (k : ℕ) → CoefficientsNear i d C C′ k → 8192 * natAbs d < 2 ^ apart k i → natAbs (at C k -ℤ at C′ k) ≤ 3
+coefficients-stay i d C C′ k near h =
+    let less : natAbs (at C k -ℤ at C′ k) < 4 = lt-of-mul-lt-mul-left (2 ^ apart k i) (omega arith) in
+    omega arith
 
 -- values that are near enough differ by at most r units
 pub values-stay : (g : ℕ) (d v v′ : ℤ) → ValuesNear g d v v′ → (D r : ℕ) → natAbs d ≤ D → valuesStay D r g ≡ true → natAbs (v -ℤ v′) ≤ r

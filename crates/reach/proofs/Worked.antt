@@ -1,9 +1,10 @@
 -- The bound of the exact solutions is reached at every place of two rows: of two samples, where the first differs, and of three, where the middle one does.
--- So no smaller number than 2 would do. And the table of docs/REACH.md: so many places are enough, and none fewer are. All by computing.
--- Assumes nothing.
+-- So no smaller number than 2 would do. And from how many places on coefficients differ by at most 3 units, and the table
+-- of docs/REACH.md: so many places are enough, and none fewer are. All by computing. Assumes nothing.
 use mathlib.Core.List.{List, [], _∷_}
 use mathlib.Core.Path.{_≡_, refl}
-use Prim.Native.Nat.{ℕ, zero, suc}
+use Prim.Native.Nat.{ℕ, zero, suc, _*_, _^_, _<_}
+use lib.Dec.{lit<}
 use lib.IntN.{ℤ, pos, negℤ}
 use Rattle.bspline.specs.Exact.{tridiagonal, Solves, whole}
 use Rattle.bspline.specs.Lists.{at}
@@ -49,6 +50,10 @@ three-reached = record {
     only zero other = refl
     only (suc zero) other = absurd (other refl)
     only (suc (suc k)) other = refl
+
+-- ---- 29 places are enough for 3 units
+pub three-units-from : 8192 * 65535 < 2 ^ 29
+three-units-from = lit< tt
 
 -- ---- the table of docs/REACH.md
 pub places-table :
