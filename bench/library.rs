@@ -1,5 +1,6 @@
-//! The operations of the library, by its C functions: a slice passes as a pointer and a length, an array as a pointer. `run --before` makes a
-//! crate of a copy of this file for an earlier version of the library; `inline` is for the calls of that crate to be like those of this module.
+//! The operations of the library, by its C functions, and the delay of the plotter, by the one of its own archive: a slice passes as a pointer and a
+//! length, an array as a pointer. `run --before` makes a crate of a copy of this file for an earlier version of the library; `inline` is for the
+//! calls of that crate to be like those of this module.
 
 extern "C" {
     fn harness_row_transform(
@@ -82,6 +83,18 @@ extern "C" {
     fn harness_announce(waiting: *mut bool, last: *mut usize, station: usize) -> usize;
 
     fn harness_turn(waiting: *mut bool, last: *mut usize) -> usize;
+
+    fn harness_delay_between(
+        first: *const i32,
+        first_length: usize,
+        second: *const i32,
+        second_length: usize,
+        factor: usize,
+        threshold: i32,
+        samples: *mut f64,
+        first_height: *mut f64,
+        second_height: *mut f64,
+    ) -> usize;
 }
 
 #[inline]
@@ -240,4 +253,30 @@ pub fn announce(waiting: &mut [bool; 16], last: &mut usize, station: usize) -> u
 pub fn turn(waiting: &mut [bool; 16], last: &mut usize) -> usize {
     // SAFETY: as above.
     unsafe { harness_turn(waiting.as_mut_ptr(), last) }
+}
+
+#[inline]
+pub fn delay_between(
+    first: &[i32],
+    second: &[i32],
+    factor: usize,
+    threshold: i32,
+    samples: &mut f64,
+    first_height: &mut f64,
+    second_height: &mut f64,
+) -> usize {
+    // SAFETY: each pointer and length are those of a slice, and the three numbers that are written are lent mutably.
+    unsafe {
+        harness_delay_between(
+            first.as_ptr(),
+            first.len(),
+            second.as_ptr(),
+            second.len(),
+            factor,
+            threshold,
+            samples,
+            first_height,
+            second_height,
+        )
+    }
 }

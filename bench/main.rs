@@ -4,7 +4,8 @@
 //! times in microseconds: the library's, that of Rust and that of C. Each is the minimum over the repetitions; each repetition has fresh data,
 //! which all get. The answers of library and Rust and every number of their buffers are compared, and the results of C, which are not exact,
 //! must lie near those of the library. A difference ends the program with status 1. files.rs has the cases that read files,
-//! onsets.rs those that find an onset and turns.rs those that take turns.
+//! onsets.rs those that find an onset, turns.rs those that take turns and delays.rs those of the delay between two rows, where the plotter's
+//! function, which stands above the library, is called the library.
 //!
 //! `main versions` measures the library beside an earlier version of it, if the program is built with one, and prints a line for each case that
 //! both have, its fields parted by tabs: the title, the library's time and that of the earlier version. Both get the same data, as above and
@@ -36,6 +37,8 @@ macro_rules! earlier {
 
 mod classic;
 mod data;
+mod delay;
+mod delays;
 mod files;
 mod library;
 mod onset;
@@ -788,8 +791,11 @@ fn print_cases() {
     let turns = turns::CASES
         .iter()
         .map(|c| (c.name, c.repetitions, c.title));
+    let delays = delays::CASES
+        .iter()
+        .map(|c| (c.name, c.repetitions, c.title));
     let cases = operations.chain(readings).chain(searches).chain(turns);
-    for (name, repetitions, title) in cases {
+    for (name, repetitions, title) in cases.chain(delays) {
         println!("{name}\t{repetitions}\t{title}");
     }
 }
@@ -819,6 +825,8 @@ fn main() -> ExitCode {
         onsets::measure(case).map(print_times)
     } else if let Some(case) = turns::CASES.iter().find(|case| case.name == word) {
         turns::measure(case).map(print_times)
+    } else if let Some(case) = delays::CASES.iter().find(|case| case.name == word) {
+        delays::measure(case).map(print_times)
     } else {
         eprintln!("bench: no case '{word}'; 'list' prints them");
         return ExitCode::from(2);

@@ -1,7 +1,7 @@
 """Measures the search for an onset with numpy, for orientation.
 
 'numpy_times.py version' prints the version of numpy. 'numpy_times.py NAME REPETITIONS' prints a time in microseconds, or '-' for a case that
-searches no row: the minimum over the repetitions. Each repetition has a fresh row of noise, of which the values at the places of the case reach
+it does not have: the minimum over the repetitions. Each repetition has a fresh row of noise, of which the values at the places of the case reach
 the threshold and no others do.
 """
 import sys

@@ -63,7 +63,7 @@ const THRESHOLD: i32 = 256 * 4096;
 
 /// Fills a row with what the library's transform and zoom make of samples. The threshold is the least that no eight values in a row reach: the
 /// greatest value and some beside it do.
-fn fill_quiet(repetition: u64, values: &mut [i32]) -> Result<i32, String> {
+pub fn fill_quiet(repetition: u64, values: &mut [i32]) -> Result<i32, String> {
     let mut samples = vec![0; rust::LONGEST_ROW];
     let mut coefficients = vec![0; rust::LONGEST_ROW];
     let mut work = vec![0; rust::LONGEST_ROW + 2 * rust::MARGIN];

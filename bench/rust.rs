@@ -715,7 +715,9 @@ fn first_run(values: &[i32], threshold: i32) -> Option<usize> {
     None
 }
 
-/// 2, with the position and the height of the onset, or 1, with the greatest height of a row without one, or the number of the refusal negated.
+/// 2, with the position and the height of the onset, or 1, with the greatest height of a row without one, or the number of the refusal negated. It is
+/// not inlined, since a search of the library is one call too: in a delay, which needs no greatest height, the compiler would not look for it.
+#[inline(never)]
 pub fn onset_find(
     values: &[i32],
     factor: usize,
@@ -740,6 +742,44 @@ pub fn onset_find(
     let greatest = values.iter().fold(i32::MIN, |best, &value| best.max(value));
     *height = f64::from(greatest) / 256.0;
     1
+}
+
+/// The delay between two rows: the position of the first onset less that of the second, in samples, and the heights of both onsets.
+pub struct Delay {
+    pub samples: f64,
+    pub first_height: f64,
+    pub second_height: f64,
+}
+
+/// The position and the height of the onset, or nothing for a row without one, or the number of the refusal.
+fn onset(values: &[i32], factor: usize, threshold: i32) -> Result<Option<(f64, f64)>, usize> {
+    let (mut position, mut height) = (0.0, 0.0);
+    match onset_find(values, factor, threshold, &mut position, &mut height) {
+        2 => Ok(Some((position, height))),
+        1 => Ok(None),
+        refused => Err(refused.unsigned_abs() as usize),
+    }
+}
+
+/// The delay, or the number of the refusal. Where the first row has no onset or the factor is not exact, the second row is only judged: every value
+/// reaches the least threshold, so that its search ends with the first eight values.
+pub fn delay(first: &[i32], second: &[i32], factor: usize, threshold: i32) -> Result<Delay, usize> {
+    let one = onset(first, factor, threshold)?;
+    // The factor is from 1 to 16 here. Positions are exact where it is a power of two.
+    let exact = factor.is_power_of_two();
+    let searched = one.is_some() && exact;
+    let two = onset(second, factor, if searched { threshold } else { i32::MIN })?;
+    if !exact {
+        return Err(19);
+    }
+    match (one, two) {
+        (Some((x, h)), Some((y, g))) => Ok(Delay {
+            samples: x - y,
+            first_height: h,
+            second_height: g,
+        }),
+        _ => Err(20),
+    }
 }
 
 /// Who waits, and who was served last. Like the library's it goes in by value, and the next one comes back beside the answer.

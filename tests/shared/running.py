@@ -1,7 +1,8 @@
 """How an outside test builds what it tests, lends buffers, calls the library and counts its groups.
 
-What is tested is a program, or the library: the crate harness, built by the kit and linked into a shared library. A group of comparisons counts
-as one test and runs in a process of its own, so that a crash or a call that never returns fails that group only.
+What is tested is a program, or the library, or the plotter above it: the crate harness or delay_harness, built by the kit and linked into a shared
+library. A group of comparisons counts as one test and runs in a process of its own, so that a crash or a call that never returns fails that group
+only.
 """
 import argparse
 import collections
@@ -39,6 +40,7 @@ PARAMETERS = {
     "picture_enlarge": SLICE + 4 * SIZE + SLICE,
     "wav_read": 2 * SLICE,
     "onset_find": SLICE + SIZE + VALUE + 2 * FLOAT,
+    "delay_between": 2 * SLICE + SIZE + VALUE + 3 * FLOAT,
     "announce": STATE + SIZE,
     "turn": STATE,
 }
@@ -339,7 +341,7 @@ def built(count, command, place):
 def file_to_test(count, what, option, command, place, tools=()):
     """The file that the command line names by this option, or the one of this tree, built; None, with a failure counted, if there is none."""
     parser = argparse.ArgumentParser(description=what)
-    parser.add_argument("--" + option, metavar="FILE", help=f"test this {option}; nothing is built")
+    parser.add_argument("--" + option, metavar="FILE", help=f"test this {option} and build none in its place")
     given = vars(parser.parse_args())[option]
     for tool in tools if given else (*tools, "rt"):
         if shutil.which(tool) is None:
@@ -351,17 +353,24 @@ def file_to_test(count, what, option, command, place, tools=()):
     return os.path.abspath(given) if given else built(count, command, place)
 
 
-def main(label, what, kind, definitions, groups, sources=()):
-    """Tests the library: runs the group of the test's own definitions and then, with a fresh object of this kind of tests each, the groups of
-    every operation. The sources are C files of tests/shared that are linked with it."""
+def archive(crate):
+    """The command of the kit that builds the static library of a crate, and where that is then."""
+    return f"rt staticlib {crate}", f"target/staticlib/lib{crate}.a"
+
+
+def main(label, what, kind, definitions, groups, sources=(), crate="harness", beside=()):
+    """Tests what a crate exports: runs the group of the test's own definitions and then, with a fresh object of this kind of tests each, the
+    groups of every operation. The sources are C files of tests/shared that are linked with it, and beside it are crates of this tree that the
+    groups call too."""
     count = Count(label)
-    archive = file_to_test(count, what, "library", "rt staticlib harness", "target/staticlib/libharness.a", ("cc",))
-    if archive is None:
+    tested = file_to_test(count, what, "library", *archive(crate), ("cc", "rt") if beside else ("cc",))
+    archives = [tested, *(built(count, *archive(other)) for other in beside)] if tested else [None]
+    if None in archives:
         count.finish()
     with tempfile.TemporaryDirectory() as room:
         shared = os.path.join(room, f"{label}.so")
         files = [os.path.join(ROOT, "tests", "shared", source) for source in sources]
-        linked = subprocess.run(["cc", "-O2", "-fPIC", "-shared", "-o", shared, *files, "-Wl,--whole-archive", archive, "-Wl,--no-whole-archive"])
+        linked = subprocess.run(["cc", "-O2", "-fPIC", "-shared", "-o", shared, *files, "-Wl,--whole-archive", *archives, "-Wl,--no-whole-archive"])
         if linked.returncode != 0:
             count.add(False, "FAILED: no shared library could be made of the static one")
             count.finish()

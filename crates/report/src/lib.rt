@@ -2,6 +2,9 @@
 use spline::Position;
 use spline::Valued;
 use spline::Written;
+use spline::limits::GREATEST_FACTOR;
+use spline::limits::MARGINS;
+use spline::limits::MOST_VALUES;
 
 // A number after words.
 pub fn number(words: &[u8], n: usize) {
@@ -16,6 +19,39 @@ pub fn signed(words: &[u8], v: i32) {
         io::write_all(1, b"-");
     }
     io::print_decimal(1, integers::magnitude(v));
+}
+
+// The digits of a number below 10^8, all eight.
+fn decimals(n: u64) {
+    let mut unit = 10000000;
+    while 0 < unit {
+        io::print_decimal(1, n / unit % 10);
+        unit /= 10;
+    }
+}
+
+// A number from 0 up, with eight decimals: as many as a multiple of 1/256 has. What is past them is cut off.
+fn unsigned(x: f64) {
+    let scaled = x * 100000000.0;
+    if scaled > -1.0 {
+        if scaled < 18446744073709551616.0 {
+            let n = std::num::truncating_f64_to_u64(scaled);
+            io::print_decimal(1, n / 100000000);
+            io::write_all(1, b".");
+            decimals(n % 100000000)
+        }
+    }
+}
+
+// The same after words, with its sign if it is below 0.
+pub fn real(words: &[u8], x: f64) {
+    io::write_all(1, words);
+    if x < 0.0 {
+        io::write_all(1, b"-");
+        unsigned(-x)
+    } else {
+        unsigned(x)
+    }
 }
 
 // A sample after words.
@@ -65,6 +101,19 @@ pub fn valued(answer: Valued) {
         Valued::Refused(r) => number(b": refused ", r.number()),
     }
     io::write_all(1, b"\n");
+}
+
+// The work that a row of three samples takes, and how many values it has at the greatest factor.
+pub const WORK: usize = 3 + MARGINS;
+
+pub const VALUES: usize = 2 * GREATEST_FACTOR + 1;
+
+// One value more than a row may have.
+pub const TOO_MANY: usize = MOST_VALUES + 1;
+
+// A function only so that its caller knows the array by its type: of an array that is written out the prover counts the elements.
+pub fn zeros() -> [i32; TOO_MANY] {
+    [0; TOO_MANY]
 }
 
 // The first n samples, or all if there are fewer, so that no caller has to prove that there are n.

@@ -1,8 +1,8 @@
--- `worked_onsets::decimals` returns. Its contract says nothing, and the loop's test alone shows that the divisor is not 0. The measure is the unit, which a
+-- `report::decimals` returns. Its contract says nothing, and the loop's test alone shows that the divisor is not 0. The measure is the unit, which a
 -- division by 10 lowers. Assumes nothing.
 use borrow.Author.Needs.{needs}
-use Rattle.worked_onsets.proofs.decimals.Statement.{statement}
-use Rattle.worked_onsets.proofs.decimals.Tie as tie
+use Rattle.report.proofs.decimals.Statement.{statement}
+use Rattle.report.proofs.decimals.Tie as tie
 
 abbrev Inv-loop : tie.InvT-loop
 Inv-loop n unit₀ unit = Unit {0}

@@ -1,20 +1,19 @@
--- `worked_onsets::real` returns: the two tests say that the number can be cut to a whole one. Assumes nothing.
+-- `report::unsigned` returns: the two tests say that the number can be cut to a whole one. Assumes nothing.
 use mathlib.Core.Path.{sym, subst}
 use borrow.Author.Needs.{needs}
 use lib.Dec.{T}
 use lib.Ieee.{ofBits, neg}
-use Rattle.worked_onsets.proofs.real.Statement.{statement}
-use Rattle.worked_onsets.proofs.real.Tie as tie
+use Rattle.report.proofs.unsigned.Statement.{statement}
+use Rattle.report.proofs.unsigned.Tie as tie
 
 truncating-f64-to-u64-requires : tie.Need-truncating-f64-to-u64-requires
 unfolding ofBits neg
 truncating-f64-to-u64-requires c κs = (subst T (sym (c .before .if1 .taken)) tt, subst T (sym (c .if2 .taken)) tt)
 
-pub real-spec : {M : Type 1} → statement M
-real-spec =
+pub unsigned-spec : {M : Type 1} → statement M
+unsigned-spec =
     tie.close
     (tie.spec
-    (λ c κs. search needs)
     truncating-f64-to-u64-requires
     (λ c κs. search needs)
     (λ c. search needs)

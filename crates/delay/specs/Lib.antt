@@ -1,0 +1,3 @@
+-- The delay between two hydrophones.
+pub mod Outcomes
+pub mod Answers

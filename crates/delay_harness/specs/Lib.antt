@@ -1,0 +1,2 @@
+-- What the contract of the C function cites.
+pub mod Codes
