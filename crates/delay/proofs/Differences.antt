@@ -1,6 +1,6 @@
 -- Differences of floating-point numbers: by which rounding each is made, and that of two fractions over one denominator it is the rounding of their
 -- difference. Assumes nothing.
-use mathlib.Core.Bool.{Bool, true, false, cond, not, _&&_}
+use mathlib.Core.Bool.{Bool, true, false, cond, not, _&&_, and-true, and-false}
 use mathlib.Core.Path.{_≡_, refl, ap, ap₂, sym, subst, _∙_}
 use Prim.Native.Nat.{ℕ, _-_, _*_, _<_}
 use native.Mathlib.Decide.{decLt}
@@ -18,14 +18,6 @@ use lib.Ieee.Scale.{round-same}
 -- ±a / c - ±b / c
 abbrev pub gap : Format → Bool → ℕ → ℕ → ℕ → Float
 gap f s c a b = cond (ltb a b) (round f (not s) (b - a) c) (round f (s && ltb b a) (a - b) c)
-
-and-true : (s : Bool) → s && true ≡ s
-and-true true = refl
-and-true false = refl
-
-and-false : (s : Bool) → s && false ≡ false
-and-false true = refl
-and-false false = refl
 
 -- 0 over anything is 0
 zero-over-one : (f : Format) (s : Bool) → round f s 0 1 ≡ fin s 0 (pos 0)

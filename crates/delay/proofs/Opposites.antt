@@ -1,5 +1,5 @@
 -- The other way round a difference is the opposite one, where zero stands for itself. Assumes nothing.
-use mathlib.Core.Bool.{Bool, true, false, cond, not}
+use mathlib.Core.Bool.{Bool, true, false, cond, not, Bool·not-not}
 use mathlib.Core.Path.{_≡_, refl, ap, sym, _∙_}
 use Prim.Native.Nat.{ℕ, zero, suc, _+_, _-_, _*_, _^_, _<_}
 use native.Mathlib.Decide.{decLt}
@@ -29,16 +29,12 @@ round-opposite : (f : Format) (s : Bool) (n c : ℕ) → round f (not s) n c ≡
 unfolding round
 round-opposite f s n c = units-opposite f s _ _
 
-not-not : (s : Bool) → not (not s) ≡ s
-not-not true = refl
-not-not false = refl
-
 -- ---- a difference of two numbers of one sign
 gap-opposite : (f : Format) (s : Bool) (c : ℕ) → 0 < c → (a b : ℕ) → Dec (a < b) → Dec (b < a) → plainZero (gap f s c b a) ≡ plainZero (neg (gap f s c a b))
 unfolding neg
 gap-opposite f s c some a b (yes h) e =
     rw (gap-less f s c a b h, gap-more f s c b a h)
-    (ap plainZero (ap (λ (t : Bool). round f t (b - a) c) (sym (not-not s)) ∙ round-opposite f (not s) (b - a) c))
+    (ap plainZero (ap (λ (t : Bool). round f t (b - a) c) (sym (Bool·not-not s)) ∙ round-opposite f (not s) (b - a) c))
 gap-opposite f s c some a b (no g) (yes h) = rw (gap-more f s c a b h, gap-less f s c b a h) (ap plainZero (round-opposite f s (a - b) c))
 gap-opposite f s c some a b (no g) (no h) = rw (gap-none f s c a b some (omega arith), gap-none f s c b a some (omega arith)) refl
 
@@ -63,7 +59,7 @@ sub-opposite f (inf false) (inf true) = refl
 sub-opposite f (inf false) (inf false) = refl
 sub-opposite f (inf s) (fin t n k) = refl
 sub-opposite f (fin s m e) nan = refl
-sub-opposite f (fin s m e) (inf t) = ap inf (sym (not-not t))
+sub-opposite f (fin s m e) (inf t) = ap inf (sym (Bool·not-not t))
 sub-opposite f (fin s m e) (fin t n k) =
     ap (λ (c : ℕ). plainZero (sum f t (n * up k * down e) (not s) (m * up e * down k) c)) (mul-comm (down k) (down e))
     ∙ sum-opposite f s (m * up e * down k) t (n * up k * down e) (down e * down k) (mul-pos (down-pos e) (down-pos k))

@@ -1,5 +1,5 @@
-// The delay between two rows with the C calling convention, for tests and benchmarks in other languages. No part of the plotter, as `harness` is no part of
-// the library.
+// The delay between two rows with the C calling convention, for tests and benchmarks in other languages, as `harness` has the library's operations. Those
+// who call the plotter use `delay`.
 ghost use mathlib.Core.Path.{_≡_};
 ghost use Rattle.delay.specs.Outcomes.{findDelay};
 ghost use Rattle.delay_harness.specs.Codes.{codedDelay};
