@@ -1,5 +1,5 @@
 """The operations in whole numbers and fractions, written from docs/SPECIFICATION.md alone: transforms and values to the last bit, the exact
-solution of the mirrored equations and the exact spline for the distances, and the refusals by lengths, sides, pitches, factors and positions."""
+solution of the mirrored equations and the exact spline for the distances, and the refusals by lengths, sides, pitches and factors."""
 import array
 from fractions import Fraction
 from functools import lru_cache
@@ -233,7 +233,7 @@ def enlarged_values(coefficients, width, m):
     return values
 
 
-# ----- Refusals by lengths, sides, pitches, factors and positions -----
+# ----- Refusals by lengths, sides, pitches and factors -----
 
 
 def length_refusal(n):
@@ -262,29 +262,3 @@ def coefficients_refusal(count, width, height, pitch):
 
 def factor_refusal(m):
     return None if m in FACTORS else 7
-
-
-def buffer_refusal(line, count, work, coefficients):
-    """The refusal of a transform whose longest line and count of coefficients are these, by the lengths of the buffers, or None."""
-    if work < work_words(line):
-        return 5
-    return 6 if coefficients < count else None
-
-
-def row_refusal(n, work, coefficients):
-    """The refusal of a row transform with these lengths, or None."""
-    return length_refusal(n) or buffer_refusal(n, n, work, coefficients)
-
-
-def past_end(k, j, n):
-    """Whether a place is past the end of a row of n, or of a side of n."""
-    return k > n - 1 or (k == n - 1 and j > 0)
-
-
-def row_position_refusal(n, k, j, m):
-    """The refusal of a position and its factor in a row of n, or None."""
-    if factor_refusal(m):
-        return 7
-    if j >= m:
-        return 8
-    return 14 if past_end(k, j, n) else None

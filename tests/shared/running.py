@@ -27,15 +27,12 @@ ROOT = os.path.dirname(os.path.dirname(os.path.dirname(os.path.abspath(__file__)
 SLICE = [ctypes.c_void_p, ctypes.c_size_t]
 SIZE = [ctypes.c_size_t]
 VALUE = [ctypes.c_int32]
-SAMPLE = [ctypes.c_int16]
 FLOAT = [ctypes.c_void_p]  # where it is written
 STATE = 2 * [ctypes.c_void_p]  # where the marks of a turn-taker are, and the station served last
 
 # The parameters of each exported function, which is harness_ and this name. Every one returns 64 bits.
 PARAMETERS = {
     "row_transform": 3 * SLICE,
-    "row_repair": SLICE + SIZE + SAMPLE + 2 * SLICE,
-    "row_preview": SLICE + SIZE + SAMPLE + 3 * SIZE + 2 * SLICE,
     "picture_transform": SLICE + 3 * SIZE + 2 * SLICE,
     "row_value": SLICE + 3 * SIZE,
     "row_zoom": SLICE + SIZE + SLICE,
@@ -47,10 +44,6 @@ PARAMETERS = {
     "announce": STATE + SIZE,
     "turn": STATE,
 }
-
-
-# An operation that gives one value answers a refusal by this and the refusal's number: no value is so large.
-REFUSED = 2**32
 
 
 class Wrong(Exception):

@@ -1,5 +1,4 @@
 -- The enums and structs of `answers`, read as the answers and descriptions of the specification: "Who can be refused". Assumes nothing.
-use Rattle.std.proofs.Math.Option.{Option, none, some}
 use Rattle.std.specs.Prelude.{ℕ}
 use Rattle.bspline.specs.Refusals.{Answer, count, value, refusal}
 use Rattle.bspline.specs.PictureLayout as layout
@@ -8,8 +7,6 @@ use Rattle.answers.specs.declared.Position.{Position}
 use Rattle.answers.specs.declared.Refusal.{Refusal}
 use Rattle.answers.specs.declared.Refusal.TheVariants.{EmptyRow, LongRow, BadSide, WrongLayout, ShortWork, ShortCoefficients, BadFactor, BadNumerator, ShortValues, BadText, BadFile, OtherFormat, UnfitSamples, PastEnd, PastBottom, ManyValues}
 use Rattle.answers.specs.declared.Shape.{Shape}
-use Rattle.answers.specs.declared.Tested.{Tested}
-use Rattle.answers.specs.declared.Tested.TheVariants.{Passed, Refused as FirstRefused}
 use Rattle.answers.specs.declared.Valued.{Valued}
 use Rattle.answers.specs.declared.Valued.TheVariants.{Value, Refused as NoValue}
 use Rattle.answers.specs.declared.Written.{Written}
@@ -42,11 +39,6 @@ written (NotWritten r) = refusal (number r)
 abbrev pub valued : Valued → Answer
 valued (Value v) = value v
 valued (NoValue r) = refusal (number r)
-
--- the first refusal that tests give, if there is one
-abbrev pub tested : Tested → Option ℕ
-tested Passed = none
-tested (FirstRefused r) = some (number r)
 
 -- what is promised of an accepted call
 abbrev pub Promised : Answer → Type 0 → Type 0

@@ -1,13 +1,12 @@
 // Which factors, sides, layouts, numerators and places are refused.
 ghost use Rattle.std.specs.Prelude.{◌≡◌, ◌<◌};
 ghost use Rattle.bspline.specs.Limits.{greatest_factor};
-ghost use Rattle.bspline.specs.Outcomes.{row_position_tests};
-ghost use Rattle.bspline.specs.Refusals.{bad_coefficients, bad_numerator, bad_pixels, bad_sides, first_refusal, outside as Refusals·outside, past_end};
-ghost use Rattle.answers.specs.Answers.{described, placed, tested};
+ghost use Rattle.bspline.specs.Refusals.{bad_coefficients, bad_numerator, bad_pixels, bad_sides, outside as Refusals·outside, past_end};
+ghost use Rattle.answers.specs.Answers.{described, placed};
 ghost use Rattle.answers.specs.Limits.{GoodSides};
 
 use crate::limits::{GREATEST_FACTOR, GREATEST_PITCH, LONGEST_SIDE};
-use crate::{Position, Refusal, Shape, Tested};
+use crate::{Position, Shape};
 
 // Whether a number is 0 or above a limit.
 pub fn outside(limit: usize, n: usize) -> bool
@@ -74,21 +73,4 @@ pub fn past_end(n: usize, position: Position) -> bool
         return true;
     }
     k == n - 1 && 0 < j
-}
-
-// Whether a position in a row of n is refused, and why: the factor, the numerator and the place are tested in this order.
-pub fn judge_position(n: usize, position: Position, m: usize) -> Tested
-    requires { 0 < n }
-    ensures { tested result ≡ first_refusal (row_position_tests m n (placed position)) }
-{
-    if bad_factor(m) {
-        return Tested::Refused(Refusal::BadFactor);
-    }
-    if bad_numerator(m, position) {
-        return Tested::Refused(Refusal::BadNumerator);
-    }
-    if past_end(n, position) {
-        return Tested::Refused(Refusal::PastEnd);
-    }
-    Tested::Passed
 }

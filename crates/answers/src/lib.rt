@@ -75,13 +75,6 @@ pub enum Valued {
     Refused(Refusal),
 }
 
-// What the tests of an operation say of a call, before it does anything: that none refuses it, or the first refusal.
-#[derive(Drop)]
-pub enum Tested {
-    Passed,
-    Refused(Refusal),
-}
-
 // A picture's description: its sides, and the distance from one row's start to the next, counted in numbers of the slice.
 #[derive(Drop)]
 pub struct Shape {

@@ -1,5 +1,4 @@
--- The laws of a bound on every number of a list, `AllWithin`: the empty list, a list with one number more or less, or with another number at a place, a
--- table, and the sum of the sizes.
+-- The laws of a bound on every number of a list, `AllWithin`: the empty list, a list with one number more or less, a table, and the sum of the sizes.
 -- The bound is one statement for each place, and the places of a list with one number more are 0 and those after it.
 -- Assumes nothing.
 use mathlib.Core.List.{List, [], ◌∷◌}
@@ -7,7 +6,7 @@ use Prim.Native.Nat.{ℕ, zero, suc, ◌+◌, ◌≤◌, ◌<◌}
 use native.Mathlib.Decide.{dec_lt}
 use native.Mathlib.Omega.{arith}
 use lib.IntN.{ℤ, pos, nat_abs}
-use lib.ListN.{length, set, get_or-eq_default}
+use lib.ListN.{length, get_or-eq_default}
 use Rattle.integers.specs.Bound.{Within}
 use Rattle.bspline.specs.Bounds.{AllWithin, sizes}
 use Rattle.bspline.specs.Lists.{at, tabulate}
@@ -31,12 +30,6 @@ four_within {B} p q r s = cons_within p.within (cons_within q.within (cons_withi
 -- the list after its first number
 pub rest_within : {B : ℕ} {x : ℤ} {l : List ℤ} → AllWithin B (x ∷ l) → AllWithin B l
 rest_within h = record { within = λ k. h.within (suc k) }
-
--- the list with another number within it at a place
-pub set_within : {B : ℕ} (l : List ℤ) (i : ℕ) (x : ℤ) → nat_abs x ≤ B → AllWithin B l → AllWithin B (set l i x)
-set_within [] i x h g = g
-set_within (y ∷ l) zero x h g = cons_within h (rest_within g)
-set_within (y ∷ l) (suc i) x h g = cons_within (g.within 0) (set_within l i x h (rest_within g))
 
 -- a greater bound
 pub all_weaken : {A B : ℕ} {l : List ℤ} → A ≤ B → AllWithin A l → AllWithin B l

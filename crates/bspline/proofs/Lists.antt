@@ -1,5 +1,4 @@
--- The laws of tables: how many numbers they have, which number stands where, and when two tables are the same; of a function of every number, also where
--- one of them is set.
+-- The laws of tables: how many numbers they have, which number stands where, and when two tables are the same; of a function of every number.
 -- `tabulate` takes one number off at a time, so each law is an induction over the count. Assumes nothing.
 use mathlib.Core.List.{List, [], ◌∷◌, map}
 use mathlib.Core.Path.{◌≡◌, refl, ap, ap₂, ◌∙◌}
@@ -7,7 +6,7 @@ use Prim.Native.Nat.{ℕ, zero, suc, ◌+◌, ◌<◌}
 use native.Mathlib.Nat.{zero-add}
 use native.Mathlib.Omega.{arith}
 use lib.IntN.{ℤ}
-use lib.ListN.{length, take, drop, set}
+use lib.ListN.{length, take, drop}
 use Rattle.bspline.specs.Lists.{tabulate, at}
 
 -- a table of n numbers has n numbers
@@ -38,12 +37,6 @@ pub tabulate_map : (h : ℤ → ℤ) (f : ℕ → ℤ) (a n : ℕ) → tabulate 
 unfolding tabulate
 tabulate_map h f a zero = refl
 tabulate_map h f a (suc n) = ap (λ l. h (f a) ∷ l) (tabulate_map h f (suc a) n)
-
--- to set a number and then take a function of every number is to set that of the number afterwards
-pub map_set : (f : ℤ → ℤ) (l : List ℤ) (i : ℕ) (x : ℤ) → map f (set l i x) ≡ set (map f l) i (f x)
-map_set f [] i x = refl
-map_set f (y ∷ l) zero x = refl
-map_set f (y ∷ l) (suc i) x = ap (λ m. f y ∷ m) (map_set f l i x)
 
 -- ---- a function of every number of a part of a list
 pub take_map : (h : ℤ → ℤ) (n : ℕ) (l : List ℤ) → take n (map h l) ≡ map h (take n l)

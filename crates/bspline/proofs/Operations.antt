@@ -2,7 +2,7 @@
 -- leaves, in a buffer of whatever length. From the two clauses of the transform's contract: the outcome, which tells the count and that the
 -- coefficients begin the buffer, and the accuracy, from which the values' distances and the return of the samples follow. Assumes nothing.
 use mathlib.Core.Bool.{false}
-use mathlib.Core.List.{List, [], ◌∷◌}
+use mathlib.Core.List.{List}
 use mathlib.Core.Path.{◌≡◌, refl, sym, ap, ap₂, ◌∙◌}
 use Prim.Native.Nat.{ℕ, max, ◌+◌, ◌-◌, ◌*◌, ◌≤◌, ◌<◌}
 use native.Mathlib.Nat.{mod-lt, mul-le-mul_right, div-add-mod'}
@@ -14,16 +14,16 @@ use lib.Seq.{get_or-take, take_at}
 use Rattle.bspline.specs.Exact.{RowAccurate, PictureAccurate}
 use Rattle.bspline.specs.Limits.{longest_row, greatest_factor, work_words}
 use Rattle.bspline.specs.Lists.{at}
-use Rattle.bspline.specs.Outcomes.{Transformed, Evaluated, refused, accepted, row_tests, row_transform, unevaluated, evaluated, zoom_tests, row_zoom, enlargement_tests, picture_enlargement, row_position_tests, row_value_tests, row_value, picture_tests, picture_transform, picture_value_tests, picture_value}
+use Rattle.bspline.specs.Outcomes.{Transformed, Evaluated, refused, accepted, row_tests, row_transform, unevaluated, evaluated, zoom_tests, row_zoom, enlargement_tests, picture_enlargement, row_value_tests, row_value, picture_tests, picture_transform, picture_value_tests, picture_value}
 use Rattle.bspline.specs.PictureLayout.{Shape, packed, area, place, pixel}
-use Rattle.bspline.specs.Refusals.{Answer, count, value, refusal, Test, refusal_1, refusal_2, bad_sides, judged}
+use Rattle.bspline.specs.Refusals.{Answer, count, value, refusal, Test, bad_sides, judged}
 use Rattle.bspline.specs.Transforms.{row_coefficients, picture_coefficients}
 use Rattle.bspline.specs.Values.{Position, zoom_position, zoom_count, zoom_values, enlarged, enlarged_values, value_in_row, value_in_picture, RowValueAccurate, PictureValueAccurate}
 use Rattle.bspline.proofs.Enlargement.{enlarged_length, enlarged_at}
 use Rattle.bspline.proofs.Lists.{tabulate_from_zero}
 use Rattle.bspline.proofs.OffData.{past_end_beyond, row_value_number, picture_value_number}
 use Rattle.bspline.proofs.PictureLayout.{place_below}
-use Rattle.bspline.proofs.Refusals.{Passed, judged_skipped, judged_accepted, one_to, inside, sides_within, numerator_below}
+use Rattle.bspline.proofs.Refusals.{Passed, judged_accepted, one_to, inside, sides_within, numerator_below}
 use Rattle.bspline.proofs.Transforms.{row_length, picture_length}
 use Rattle.bspline.proofs.Zoom.{position_at_sample, zoom_length}
 use Rattle.bspline.proofs.Values.{row_value_accurate, sample_returns, picture_value_accurate, pixel_returns}
@@ -55,22 +55,13 @@ value_taken tests v w e =
     let t = judged_accepted (λ (a : Answer). a) tests refusal (value w) (value v) never (sym e) in
     (t.0, let f = t.1 in cc)
 
--- row value of a row that is not refused is decided by the tests of the position
-pub row_value_judged : (m : ℕ) (c : List ℤ) (p : Position) → 0 < length c → length c ≤ longest_row →
-    row_value m c p ≡ judged (row_position_tests m (length c) p) refusal (value (value_in_row m c p))
-unfolding row_value
-row_value_judged m c p some short =
-    judged_skipped (refusal_1 (length c) ∷ refusal_2 longest_row (length c) ∷ []) (row_position_tests m (length c) p) refusal (value (value_in_row m c p))
-    (ne_eqb (length c) 0 (λ e. omega arith), (le-ltb longest_row (length c) short, tt))
-
--- where row value answers a value the numerator is below the factor, which is in range, and k + j/m is at most n - 1
-pub row_value_on : (m : ℕ) (c : List ℤ) (p : Position) (v : ℤ) → row_value m c p ≡ value v →
-    (p.j < m) × (p.k * m + p.j ≤ (length c - 1) * m) × (m ≤ greatest_factor)
+-- where row value answers a value the numerator is below the factor, and k + j/m at most n - 1
+pub row_value_on : (m : ℕ) (c : List ℤ) (p : Position) (v : ℤ) → row_value m c p ≡ value v → (p.j < m) × (p.k * m + p.j ≤ (length c - 1) * m)
 unfolding row_value
 row_value_on m c p v e =
     let t = (value_taken (row_value_tests m c p) v (value_in_row m c p) e).0 in
     let below = numerator_below m p t.1.1.1.0 in
-    (below, ltb-false _ _ (sym (past_end_beyond m (length c) p below) ∙ t.1.1.1.1.0), (one_to greatest_factor m t.1.1.0).1)
+    (below, ltb-false _ _ (sym (past_end_beyond m (length c) p below) ∙ t.1.1.1.1.0))
 
 -- row zoom or enlarging that answers a count n has made so many values, no test's condition holds, and the values begin the buffer
 values_taken : (tests : List Test) (q : ℕ) (made buffer vs : List ℤ) (n : ℕ) → length made ≡ q →

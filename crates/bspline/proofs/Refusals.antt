@@ -1,7 +1,6 @@
 -- What is known where the test of a refusal fails, and of an outcome that tests decide. Assumes nothing.
 use mathlib.Core.Bool.{Bool, true, false, not, ◌||◌, ◌&&◌}
 use mathlib.Core.List.{List, [], ◌∷◌, ◌++◌, append-nil}
-use mathlib.Core.Option.{Option, none, some, Option-elim, some-ne-none}
 use mathlib.Core.Path.{◌≡◌, refl, sym, ap, ◌∙◌}
 use mathlib.Mathlib.Data.Bool.Basic.{or-eq-false-eq-eq-false-and-eq-false}
 use Prim.Native.Nat.{ℕ, ◌-◌, ◌≤◌, ◌<◌}
@@ -10,7 +9,7 @@ use borrow.Author.Tests.{ltb-false, leb-false, eqb-true, eqb-false, not-false, n
 use lib.Dec.{eqb, ltb}
 use Rattle.bspline.specs.Limits.{longest_side}
 use Rattle.bspline.specs.PictureLayout.{Shape, packed, area, extent}
-use Rattle.bspline.specs.Refusals.{Answer, Test, ◌when◌, outside, bad_sides, bad_pitch, bad_pixels, bad_coefficients, bad_numerator, past_end, judged, first_refusal}
+use Rattle.bspline.specs.Refusals.{Answer, Test, ◌when◌, outside, bad_sides, bad_pitch, bad_pixels, bad_coefficients, bad_numerator, past_end, judged}
 use Rattle.bspline.specs.Values.{Position}
 
 -- a number that is neither 0 nor above a limit
@@ -21,7 +20,7 @@ one_to limit n e =
 
 -- and a number from 1 to the limit is not
 pub inside : (limit n : ℕ) → 0 < n → n ≤ limit → outside limit n ≡ false
-inside limit n above few = rw (ne_eqb n 0 (λ e. omega arith), le-ltb limit n few)
+inside limit n some few = rw (ne_eqb n 0 (λ e. omega arith), le-ltb limit n few)
 
 -- each side of a picture that is not refused for them
 pub sides_within : (d : Shape) → bad_sides d ≡ false → ((0 < d.width) × (d.width ≤ longest_side)) × ((0 < d.height) × (d.height ≤ longest_side))
@@ -47,11 +46,6 @@ abbrev pub Passed : List Test → Type 0
 Passed [] = Unit
 Passed ((k when c) ∷ tests) = (c ≡ false) × Passed tests
 
--- two lists of tests, one after the other
-pub passed_parts : (before tests : List Test) → Passed (before ++ tests) → Passed before × Passed tests
-passed_parts [] tests p = (tt, p)
-passed_parts ((k when c) ∷ before) tests p = let rest = passed_parts before tests p.1 in ((p.0, rest.0), rest.1)
-
 -- what holds of every refusal, and of the accepted outcome where no condition holds, holds of whichever comes about
 pub judged_cases : {A : Type 0} (P : A → Type 0) (tests : List Test) (refuse : ℕ → A) (result : A) →
     ((k : ℕ) → P (refuse k)) → (Passed tests → P result) → P (judged tests refuse result)
@@ -65,20 +59,6 @@ pub judged_map : {A B : Type 0} (h : A → B) (tests : List Test) (refuse : ℕ 
 judged_map h [] refuse result = refl
 judged_map h ((k when true) ∷ tests) refuse result = refl
 judged_map h ((k when false) ∷ tests) refuse result = judged_map h tests refuse result
-
--- of two lists of tests the second decides where the first accepts
-pub judged_append : {A : Type 0} (before tests : List Test) (refuse : ℕ → A) (result : A) →
-    judged (before ++ tests) refuse result ≡ judged before refuse (judged tests refuse result)
-judged_append [] tests refuse result = refl
-judged_append ((k when true) ∷ before) tests refuse result = refl
-judged_append ((k when false) ∷ before) tests refuse result = judged_append before tests refuse result
-
--- outcomes that are the same where no condition holds are the same after the tests
-pub judged_same : {A : Type 0} (tests : List Test) (refuse : ℕ → A) (result other : A) → (Passed tests → result ≡ other) →
-    judged tests refuse result ≡ judged tests refuse other
-judged_same [] refuse result other e = e tt
-judged_same ((k when true) ∷ tests) refuse result other e = refl
-judged_same ((k when false) ∷ tests) refuse result other e = judged_same tests refuse result other (λ p. e (refl, p))
 
 -- tests none of whose conditions holds leave it to those after them
 pub judged_skipped : {A : Type 0} (before tests : List Test) (refuse : ℕ → A) (result : A) →
@@ -105,20 +85,6 @@ judged_accepted answer ((k when true) ∷ tests) refuse result o never e = absur
 judged_accepted answer ((k when false) ∷ tests) refuse result o never e =
     let rest = judged_accepted answer tests refuse result o never e in ((refl, rest.0), rest.1)
 
--- where there is no first refusal, no condition holds
-pub none_refuses : (tests : List Test) → first_refusal tests ≡ none → Passed tests
-none_refuses tests = judged_cases (λ o. o ≡ none → Passed tests) tests some none (λ k e. absurd (some-ne-none k e)) (λ p e. p)
-
--- and where there is one, it decides
-pub first_refuses : {A : Type 0} (tests : List Test) (k : ℕ) (refuse : ℕ → A) (result : A) → first_refusal tests ≡ some k → judged tests refuse result ≡ refuse k
-unfolding Option-elim
-first_refuses tests k refuse result e =
-    sym (judged_map (λ o. Option-elim o result refuse) tests some none) ∙ ap (λ o. Option-elim o result refuse) e
-
--- also of more tests that come after these
-pub first_stays : (before tests : List Test) (k : ℕ) → first_refusal before ≡ some k → first_refusal (before ++ tests) ≡ some k
-first_stays before tests k e = judged_append before tests some none ∙ first_refuses before k some (first_refusal tests) e
-
 -- tests that decide alike do so after the same first tests too
 pub judged_after : {A : Type 0} (before tests others : List Test) (refuse : ℕ → A) (result : A) →
     judged tests refuse result ≡ judged others refuse result → judged (before ++ tests) refuse result ≡ judged (before ++ others) refuse result
@@ -139,6 +105,6 @@ numerator_below m p e = leb-false m p.j e
 
 -- a place that is not past the end of n data is below n
 pub place_inside : (n : ℕ) (p : Position) → 0 < n → past_end n p ≡ false → p.k < n
-place_inside n p above e =
+place_inside n p some e =
     let both = (or-eq-false-eq-eq-false-and-eq-false (ltb (n - 1) p.k) (eqb p.k (n - 1) && ltb 0 p.j)).0 e in
     omega (arith, ltb-false (n - 1) p.k both.0)

@@ -69,12 +69,9 @@ unfoldable pub picture_enlargement : ℕ → Shape → List ℤ → List ℤ →
 picture_enlargement m d c buffer =
     judged (enlargement_tests m d c buffer) (unevaluated buffer) (evaluated (area (enlarged m d)) (enlarged_values m d c) buffer)
 
--- ---- the two values: an answer alone, since they write nothing. Row value: 1, 2, and of the position in a row of n 7, 8, 14
-abbrev pub row_position_tests : ℕ → ℕ → Position → List Test
-row_position_tests m n p = refusal_7 m ∷ refusal_8 m p ∷ refusal_14 n p ∷ []
-
+-- ---- the two values: an answer alone, since they write nothing. Row value tests 1, 2, 7, 8, 14
 abbrev pub row_value_tests : ℕ → List ℤ → Position → List Test
-row_value_tests m c p = refusal_1 (length c) ∷ refusal_2 longest_row (length c) ∷ row_position_tests m (length c) p
+row_value_tests m c p = refusal_1 (length c) ∷ refusal_2 longest_row (length c) ∷ refusal_7 m ∷ refusal_8 m p ∷ refusal_14 (length c) p ∷ []
 
 unfoldable pub row_value : ℕ → List ℤ → Position → Answer
 row_value m c p = judged (row_value_tests m c p) refusal (value (value_in_row m c p))

@@ -1,6 +1,5 @@
 -- What an operation answers, and the conditions on which it refuses: "Who can be refused". Assumes nothing.
 use Rattle.std.specs.Prelude.{Bool, true, false, not, ◌&&◌, ◌||◌, List, [], ◌∷◌, ℕ, ◌-◌, leb, ltb, eqb, ℤ, length}
-use Rattle.std.proofs.Math.Option.{Option, none, some}
 use Rattle.bspline.specs.PictureLayout.{Shape, area, extent}
 use Rattle.bspline.specs.Limits.{longest_side, greatest_pitch, greatest_factor, most_enlarged, work_words}
 use Rattle.bspline.specs.Values.{Position}
@@ -97,7 +96,3 @@ abbrev pub judged : {A : Type 0} → List Test → (ℕ → A) → A → A
 judged [] refuse result = result
 judged ((k when true) ∷ tests) refuse result = refuse k
 judged ((k when false) ∷ tests) refuse result = judged tests refuse result
-
--- the number of that test, if there is one
-abbrev pub first_refusal : List Test → Option ℕ
-first_refusal tests = judged tests some none

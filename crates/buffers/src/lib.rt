@@ -1,5 +1,5 @@
 // Whole buffers: samples and pixels brought to the coefficients' unit, and the work slice cleared.
-ghost use Rattle.std.specs.Prelude.{◌≡◌, ◌^◌, ◌≤◌, ◌<◌, pos, nat_abs, length, replicate, set};
+ghost use Rattle.std.specs.Prelude.{◌≡◌, ◌≤◌, pos, length, replicate};
 ghost use Rattle.bspline.specs.PictureLayout.{area, extent};
 ghost use Rattle.answers.specs.Answers.{described};
 ghost use Rattle.buffers.specs.Raised.{raised, Raised, RaisedPicture};
@@ -23,14 +23,6 @@ pub fn raise(samples: &[i16], c: &mut [i32])
         c[i] = raised_sample(samples[i]);
         i += 1;
     }
-}
-
-// Puts another sample, in that unit, at a place of such a buffer.
-pub fn raise_at(c: &mut [i32], place: usize, sample: i16)
-    requires { place < length c.old }
-    ensures { (c.new ≡ set c.old place (raised sample)) × (nat_abs sample ≤ 2 ^ 15) }
-{
-    c[place] = raised_sample(sample);
 }
 
 // Fills a buffer with the pixels of a picture in the coefficients' unit, closely packed: row after row, and no number between the rows is read. The

@@ -1,32 +1,37 @@
 -- Answers as signed numbers, as the functions for C return them, beside the buffers that they leave. Assumes nothing.
-use Rattle.std.specs.Prelude.{Bool, List, ℕ, ◌-◌, ◌^◌, ℤ, pos, neg_ℤ, Float}
+use Rattle.std.specs.Prelude.{Bool, List, ℕ, ◌+◌, ◌-◌, ◌*◌, ◌^◌, min, ℤ, pos, neg_ℤ, Float}
 use Rattle.std.proofs.Math.Option.{Option, none, some}
 use Rattle.bspline.specs.Outcomes.{Transformed, Evaluated}
-use Rattle.bspline.specs.Refusals.{Answer}
-use Rattle.codes.specs.Codes.{code, clip_code}
+use Rattle.bspline.specs.Refusals.{Answer, count, value, refusal}
 use Rattle.onset.specs.Outcomes.{Answer as Search, onset, quiet, refusal as unsearched}
-use Rattle.repair.specs.Outcomes.{Repaired}
 use Rattle.turns.specs.Outcomes.{Announcement, Reply, accepted, refusal as unannounced, Turn}
-use Rattle.wavefile.specs.Outcomes.{Read}
+use Rattle.wavefile.specs.Outcomes.{Read, Answer as Reading, clip, refusal as unread}
 
--- the outcome of a transform or of a preview, with the code of its answer
+-- a count as itself, as far as 64 bits with a sign go; a refusal's number negated
+abbrev pub code : Answer → ℤ
+code (count n) = pos (min n (2 ^ 63 - 1))
+code (value v) = v
+code (refusal k) = neg_ℤ (pos k)
+
+-- a value as itself, a refusal's number above 2^32, which no value is
+abbrev pub value_code : Answer → ℤ
+value_code (count n) = pos n
+value_code (value v) = v
+value_code (refusal k) = pos (2 ^ 32 + k)
+
+-- a clip as its rate and, in the low 16 bits, the count of its samples; a refusal's number negated
+abbrev pub clip_code : Reading → ℤ
+clip_code (clip n r) = pos (r * 2 ^ 16 + min n (2 ^ 16 - 1))
+clip_code (unread k) = neg_ℤ (pos k)
+
+-- the outcome of a transform, with the code of its answer
 pub record CodedTransform : Type 0 where
   pub answer : ℤ
   pub coefficients : List ℤ
   pub work : List ℤ
 
-abbrev pub coded_transform : (Answer → ℤ) → Transformed → CodedTransform
-coded_transform coded o = record { answer = coded o.answer; coefficients = o.coefficients; work = o.work }
-
--- the outcome of repairing, with the code of its answer
-pub record CodedRepair : Type 0 where
-  pub answer : ℤ
-  pub samples : List ℤ
-  pub coefficients : List ℤ
-  pub work : List ℤ
-
-abbrev pub coded_repair : Repaired → CodedRepair
-coded_repair o = record { answer = code o.answer; samples = o.samples; coefficients = o.coefficients; work = o.work }
+abbrev pub coded_transform : Transformed → CodedTransform
+coded_transform o = record { answer = code o.answer; coefficients = o.coefficients; work = o.work }
 
 -- the outcome of row zoom or enlarging, with the code of its answer
 pub record CodedValues : Type 0 where

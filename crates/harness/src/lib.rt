@@ -1,18 +1,74 @@
 // The operations with the C calling convention, for tests and benchmarks in other languages. No part of the library: nothing in the
 // repository but tests/, bench/ and a drawing of examples/ uses it.
-ghost use Rattle.std.specs.Prelude.{◌≡◌};
+ghost use Rattle.std.specs.Prelude.{◌≡◌, ◌+◌, ◌-◌, ◌*◌, ◌^◌, min, pos, neg_ℤ};
 ghost use Rattle.bspline.specs.Outcomes.{row_transform, picture_transform, row_zoom, picture_enlargement, row_value, picture_value};
+ghost use Rattle.answers.specs.Answers.{number, valued, written};
 ghost use Rattle.wavefile.specs.Outcomes.{wav_read};
+ghost use Rattle.wav.specs.Answers.{answered};
 ghost use Rattle.onset.specs.Outcomes.{find_onset};
 ghost use Rattle.turns.specs.Outcomes.{announce, turn};
-ghost use Rattle.repair.specs.Outcomes.{row_repair, row_preview};
-ghost use Rattle.codes.specs.Codes.{code, value_code};
-ghost use Rattle.harness.specs.Codes.{coded_transform, coded_repair, coded_values, coded_read, coded_search, coded_announcement, coded_turn};
+ghost use Rattle.harness.specs.Codes.{code, value_code, clip_code, coded_transform, coded_values, coded_read, coded_search, coded_announcement, coded_turn};
 
-use codes::{reading_code, refusal_code, valued_code, written_code};
 use onset::Detection;
-use spline::{Position, Shape};
+use spline::{Position, Refusal, Shape, Valued, Written};
 use turns::{Named, Reply, STATIONS, TurnTaker};
+use wav::Reading;
+
+// A count as a signed number. No count is so great that it must be cut.
+fn count_code(n: usize) -> i64
+    ensures { result ≡ pos (min n (2 ^ 63 - 1)) }
+{
+    if n <= 9223372036854775807 {
+        n as i64
+    } else {
+        9223372036854775807
+    }
+}
+
+// A refusal's number negated.
+fn refusal_code(r: Refusal) -> i64
+    ensures { result ≡ neg_ℤ (pos (number r)) }
+{
+    -(r.byte() as i64)
+}
+
+// A count as itself, or a refusal's number negated.
+fn written_code(w: Written) -> i64
+    ensures { result ≡ code (written w) }
+{
+    match w {
+        Written::Count(n) => count_code(n),
+        Written::Refused(r) => refusal_code(r),
+    }
+}
+
+// A value as itself, or 2^32, which is above every value, plus a refusal's number.
+fn valued_code(v: Valued) -> i64
+    ensures { result ≡ value_code (valued v) }
+{
+    match v {
+        Valued::Value(x) => x as i64,
+        Valued::Refused(r) => 4294967296 + r.byte() as i64,
+    }
+}
+
+// A clip's rate and, in the low 16 bits, the count of its samples. No count is so great that it must be cut.
+fn clip_code(count: usize, rate: u32) -> i64
+    ensures { result ≡ pos (rate * 2 ^ 16 + min count (2 ^ 16 - 1)) }
+{
+    let low = if count <= 65535 { count } else { 65535 };
+    (rate as usize * 65536 + low) as i64
+}
+
+// The code of a clip, or a refusal's number negated.
+fn reading_code(r: Reading) -> i64
+    ensures { result ≡ clip_code (answered r) }
+{
+    match r {
+        Reading::Clip { count, rate } => clip_code(count, rate),
+        Reading::Refused(r) => refusal_code(r),
+    }
+}
 
 #[unsafe(no_mangle)]
 pub extern "C" fn harness_row_transform(
@@ -21,41 +77,9 @@ pub extern "C" fn harness_row_transform(
     work: &mut [i64],
 ) -> i64
     ensures { record { answer = result; coefficients = coefficients.new; work = work.new }
-        ≡ coded_transform code (row_transform samples.now coefficients.old work.old) }
+        ≡ coded_transform (row_transform samples.now coefficients.old work.old) }
 {
     written_code(spline::row::transform(samples, coefficients, work))
-}
-
-#[unsafe(no_mangle)]
-pub extern "C" fn harness_row_repair(
-    samples: &mut [i16],
-    place: usize,
-    sample: i16,
-    coefficients: &mut [i32],
-    work: &mut [i64],
-) -> i64
-    ensures { record { answer = result; samples = samples.new; coefficients = coefficients.new; work = work.new }
-        ≡ coded_repair (row_repair samples.old place sample coefficients.old work.old) }
-{
-    written_code(spline::row::repair(samples, place, sample, coefficients, work))
-}
-
-#[unsafe(no_mangle)]
-pub extern "C" fn harness_row_preview(
-    samples: &[i16],
-    place: usize,
-    sample: i16,
-    k: usize,
-    j: usize,
-    m: usize,
-    coefficients: &mut [i32],
-    work: &mut [i64],
-) -> i64
-    ensures { record { answer = result; coefficients = coefficients.new; work = work.new }
-        ≡ coded_transform value_code (row_preview samples.now place sample m (record { k = k; j = j }) coefficients.old work.old) }
-{
-    let position = Position { k, j };
-    valued_code(spline::row::preview(samples, place, sample, position, m, coefficients, work))
 }
 
 #[unsafe(no_mangle)]
@@ -68,7 +92,7 @@ pub extern "C" fn harness_picture_transform(
     work: &mut [i64],
 ) -> i64
     ensures { record { answer = result; coefficients = coefficients.new; work = work.new }
-        ≡ coded_transform code (picture_transform (record { width = width; height = height; pitch = pitch }) pixels.now coefficients.old work.old) }
+        ≡ coded_transform (picture_transform (record { width = width; height = height; pitch = pitch }) pixels.now coefficients.old work.old) }
 {
     let shape = Shape {
         width,

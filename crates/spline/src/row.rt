@@ -1,5 +1,4 @@
 // The operations on rows.
-pub use repair::{preview, repair};
 pub use row_transform::transform;
 pub use values::row::value;
 pub use zoom::row::zoom;

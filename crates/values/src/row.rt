@@ -5,15 +5,15 @@ ghost use Rattle.bspline.specs.Values.{value_in_row};
 ghost use Rattle.answers.specs.Answers.{placed, valued};
 ghost use Rattle.answers.specs.Positions.{OnRow};
 
-use answers::checks::judge_position;
+use answers::checks::{bad_factor, bad_numerator, past_end};
 use answers::limits::LONGEST_ROW;
-use answers::{Position, Refusal, Tested, Valued};
+use answers::{Position, Refusal, Valued};
 use rounding::round_narrow;
 use sums::rows::{dot, support};
 use sums::weights::{row_divisor, weights_at};
 
 // The row value at a position that is not refused.
-pub fn value_at(c: &[i32], k: usize, j: usize, m: usize) -> i32
+fn value_at(c: &[i32], k: usize, j: usize, m: usize) -> i32
     requires { OnRow m (length c.now) (record { k = k; j = j }) }
     ensures { result ≡ value_in_row m c.now (record { k = k; j = j }) }
 {
@@ -32,8 +32,14 @@ pub fn value(coefficients: &[i32], position: Position, m: usize) -> Valued
     if LONGEST_ROW < n {
         return Valued::Refused(Refusal::LongRow);
     }
-    match judge_position(n, position, m) {
-        Tested::Passed => Valued::Value(value_at(coefficients, position.k, position.j, m)),
-        Tested::Refused(r) => Valued::Refused(r),
+    if bad_factor(m) {
+        return Valued::Refused(Refusal::BadFactor);
     }
+    if bad_numerator(m, position) {
+        return Valued::Refused(Refusal::BadNumerator);
+    }
+    if past_end(n, position) {
+        return Valued::Refused(Refusal::PastEnd);
+    }
+    Valued::Value(value_at(coefficients, position.k, position.j, m))
 }

@@ -4,7 +4,7 @@ use borrow.Author.Rules.{rules, sfits_of}
 use mir.Facts.{to_z-of_z}
 use mir.Syntax.{w64}
 use mir.Val.{SFits}
-use Rattle.codes.specs.Codes.{value_code}
+use Rattle.harness.specs.Codes.{value_code}
 use Rattle.harness.proofs.harness_row_value.Statement.{statement}
 use Rattle.harness.proofs.harness_row_value.Tie as tie
 

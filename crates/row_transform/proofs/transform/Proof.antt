@@ -1,87 +1,124 @@
--- `row_transform::transform` meets its contract: the refusal is that of the tests, and where they have passed the parts of the two buffers that the filter
--- is lent become the row's coefficients and zeros. Assumes nothing.
+-- `row_transform::transform` meets its contract: each refusal is the first test that holds, and where none does the parts of the two buffers that
+-- the filter is lent become the row's coefficients and zeros. Assumes nothing.
+use mathlib.Core.Bool.{false}
 use mathlib.Core.List.{List}
-use mathlib.Core.Path.{◌≡◌, refl, sym, ap, ap₂, ◌∙◌}
+use mathlib.Core.Path.{◌≡◌, sym}
+use native.Mathlib.Omega.{arith}
 use borrow.Author.Rules.{rules}
+use borrow.Author.Tests.{lt-ltb, le-ltb, eq-eqb, ne_eqb}
+use lib.Dec.{eqb, ltb}
 use lib.IntN.{ℤ}
-use lib.ListN.{length}
-use Rattle.bspline.specs.Outcomes.{row_tests, row_transform}
-use Rattle.bspline.specs.Refusals.{count}
-use Rattle.bspline.proofs.Refusals.{Passed, judged_passed, none_refuses, first_refuses}
-use Rattle.answers.specs.Answers.{tested}
-use Rattle.row_transform.proofs.AcceptedRows.{words, room, lent_coefficients, lent_work, lent, left_coefficients, left_work, left_accurate}
+use lib.ListN.{length, take, drop, length-replicate}
+use lib.Seq.{length-take-le}
+use Rattle.bspline.specs.Limits.{longest_row, work_words}
+use Rattle.bspline.specs.Outcomes.{row_transform}
+use Rattle.bspline.specs.Transforms.{row_coefficients}
+use Rattle.bspline.proofs.Accuracy.{row_accurate}
+use Rattle.bspline.proofs.Transforms.{row_length, row_begins}
 use Rattle.row_transform.proofs.transform.Statement.{statement}
 use Rattle.row_transform.proofs.transform.Tie as tie
 
--- no test refuses the row
-module _ (c : tie.After-enum-told) where
+returns : tie.Need-returns
+unfolding row_transform
+returns c = (simp (eq-eqb _ _ c.if1.true), tt)
+
+returns_2 : tie.Need-returns-2
+unfolding row_transform
+returns_2 c = (simp (ne_eqb _ _ c.before.if1.false, lt-ltb _ _ c.if2.true), tt)
+
+-- the row is not refused
+module _ (c : tie.Else2) where
   abbrev start : tie.Start
-  start = c.before.before.before.before.before
+  start = c.before.before
 
   abbrev s : List ℤ
   s = start.args.samples.now
 
-  abbrev buffer : List ℤ
-  buffer = start.args.coefficients.now
+  some : eqb (length s) 0 ≡ false
+  some = ne_eqb _ _ c.before.if1.false
 
-  abbrev work : List ℤ
-  work = start.args.work.now
+  short : ltb longest_row (length s) ≡ false
+  short = le-ltb _ _ c.if2.false
 
-  passed : Passed (row_tests s buffer work)
-  passed = none_refuses (row_tests s buffer work) (sym c.before.before.judge.ensures ∙ ap tested c.enum_told.given.1)
+add_words : tie.Need-overflow-add-words
+add_words c = search rules
+
+returns_3 : tie.Need-returns-3
+unfolding row_transform
+returns_3 c = (simp (some c.before, short c.before, lt-ltb _ _ c.if3.true), tt)
+
+-- nor are the two buffers
+module _ (c : tie.Else4) where
+  abbrev row : tie.Else2
+  row = c.before.before
+
+  roomy : ltb (length (start row).args.work.now) (work_words (length (s row))) ≡ false
+  roomy = le-ltb _ _ c.before.if3.false
+
+  fitting : ltb (length (start row).args.coefficients.now) (length (s row)) ≡ false
+  fitting = le-ltb _ _ c.if4.false
+
+  lent_coefficients : length (take (length (s row)) (start row).args.coefficients.now) ≡ length (s row)
+  lent_coefficients = length-take-le (length (s row)) (start row).args.coefficients.now (omega arith)
+
+  lent_work : length (take (work_words (length (s row))) (start row).args.work.now) ≡ work_words (length (s row))
+  lent_work = length-take-le (work_words (length (s row))) (start row).args.work.now (omega arith)
+
+returns_4 : tie.Need-returns-4
+unfolding row_transform
+returns_4 c =
+    let r = c.before.before in
+    (simp (some r, short r, le-ltb _ _ c.before.if3.false, lt-ltb _ _ c.if4.true), tt)
 
 slice_relend_prefix_filter_row : tie.Need-slice-relend-prefix-filter-row
-slice_relend_prefix_filter_row c = room (s c) (buffer c) (work c) (passed c)
+slice_relend_prefix_filter_row c = search rules
 
 slice_aggregate_filter_row : tie.Need-slice-aggregate-filter-row
-slice_aggregate_filter_row c = let t = c.before in sym (lent_coefficients (s t) (buffer t) (work t) (passed t))
+slice_aggregate_filter_row c = sym (lent_coefficients c.before)
 
 slice_relend_prefix_filter_row_2 : tie.Need-slice-relend-prefix-filter-row-2
-slice_relend_prefix_filter_row_2 c = let t = c.before in words (s t) (buffer t) (work t) (passed t)
+slice_relend_prefix_filter_row_2 c = search rules
 
 slice_aggregate_filter_row_2 : tie.Need-slice-aggregate-filter-row-2
-slice_aggregate_filter_row_2 c = let t = c.before.before in sym (lent_work (s t) (buffer t) (work t) (passed t))
+slice_aggregate_filter_row_2 c = sym (lent_work c.before.before)
 
 filter_row_requires : tie.Need-filter-row-requires
-filter_row_requires c κs = let t = c.before.before in lent (s t) (buffer t) (work t) (passed t)
+filter_row_requires c κs =
+    let e = c.before.before in
+    record { some = omega arith; short = omega arith; coefficients = lent_coefficients e; words = lent_work e }
 
-returns : tie.Need-returns
+same_length : tie.Need-same-length
+same_length c = search rules
+
+same_length_2 : tie.Need-same-length-2
+same_length_2 c = search rules
+
+returns_5 : tie.Need-returns-5
 unfolding row_transform
-returns c =
+returns_5 c =
     let f = c.before.before in
-    let t = f.before.before.before in
+    let e = f.before.before.before in
+    let l = s (row e) in
+    let rest = drop (length l) (start (row e)).args.coefficients.now in
     let filtered = f.filter-row.ensures in (
-      ap₂ (λ C W. record { answer = count (length (s t)); coefficients = C; work = W })
-          (left_coefficients (s t) (buffer t) (work t) (passed t) (s t) _ _ refl filtered)
-          (left_work (s t) (buffer t) (work t) (passed t) (s t) _ _ refl filtered)
-          ∙ sym (judged_passed (row_tests (s t) (buffer t) (work t)) _ _ (passed t)),
-      left_accurate (s t) (buffer t) (work t) (passed t) (s t) _ _ refl filtered,
+      simp (some (row e), short (row e), roomy e, fitting e, filtered.coefficients, filtered.cleared, row_length, length-replicate),
+      rw filtered.coefficients (row_begins l (row_coefficients l) rest (row_length l) (row_accurate l (omega arith) filtered.small)),
     )
-
-returns_2 : tie.Need-returns-2
-unfolding row_transform
-returns_2 c =
-    let j = c.before.before.before in
-    let start = j.before.before.before in
-    let tests = row_tests start.args.samples.now start.args.coefficients.now start.args.work.now in
-    (sym (first_refuses tests _ _ _ (sym j.judge.ensures ∙ ap tested c.before.r.given.1)), tt)
 
 pub transform_spec : {M : Type 1} → statement M
 transform_spec =
     tie.close
     (tie.spec
-    (λ c κs. search rules)
-    (λ c. search rules)
+    returns
+    returns_2
+    add_words
+    returns_3
+    returns_4
     slice_relend_prefix_filter_row
     slice_aggregate_filter_row
-    (λ c. search rules)
     slice_relend_prefix_filter_row_2
     slice_aggregate_filter_row_2
     filter_row_requires
-    (λ c. search rules)
-    (λ c. search rules)
-    (λ c. search rules)
-    returns
-    (λ c. search rules)
-    (λ c. search rules)
-    returns_2)
+    same_length
+    same_length_2
+    returns_5)

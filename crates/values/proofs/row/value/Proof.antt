@@ -1,22 +1,21 @@
 -- `values::row::value` meets its contract: each refusal is the first test that holds, and where none does the position is on the row. Assumes nothing.
-use mathlib.Core.List.{List}
+use mathlib.Core.Bool.{false}
 use mathlib.Core.Path.{◌≡◌, sym, ap, ◌∙◌}
-use Prim.Native.Nat.{ℕ, ◌<◌}
+use Prim.Native.Nat.{ℕ}
 use native.Mathlib.Omega.{arith}
 use borrow.Author.Rules.{rules, sfits_of}
-use borrow.Author.Tests.{lt-ltb, eq-eqb, ne_eqb}
-use lib.IntN.{ℤ}
+use borrow.Author.Tests.{lt-ltb, le-ltb, eq-eqb, ne_eqb}
+use lib.Dec.{eqb, ltb}
 use lib.ListN.{length}
 use mir.Facts.{to_z-of_z}
 use mir.Syntax.{w32}
 use mir.Val.{SFits}
-use Rattle.bspline.specs.Outcomes.{row_position_tests, row_value}
-use Rattle.bspline.specs.Refusals.{value, Test}
-use Rattle.bspline.specs.Values.{Position}
-use Rattle.bspline.proofs.Operations.{row_value_judged}
-use Rattle.bspline.proofs.Refusals.{Passed, judged_passed, none_refuses, first_refuses}
-use Rattle.answers.specs.Answers.{placed, tested}
-use Rattle.answers.proofs.Inside.{on_row}
+use Rattle.bspline.specs.Limits.{longest_row, greatest_factor}
+use Rattle.bspline.specs.Outcomes.{row_value}
+use Rattle.bspline.specs.Refusals.{value, outside, bad_numerator, past_end}
+use Rattle.answers.specs.Answers.{placed}
+use Rattle.answers.proofs.Inside.{inside}
+use Rattle.answers.proofs.WithinLimits.{factor}
 use Rattle.values.proofs.row.value.Statement.{statement}
 use Rattle.values.proofs.row.value.Tie as tie
 
@@ -33,42 +32,81 @@ module _ (c : tie.Else2) where
   abbrev start : tie.Start
   start = c.before.before
 
-  abbrev l : List ℤ
-  l = start.args.coefficients.now
+  abbrev n : ℕ
+  n = length start.args.coefficients.now
 
-  abbrev m : ℕ
-  m = start.args.m
+  some : eqb n 0 ≡ false
+  some = ne_eqb _ _ c.before.if1.false
 
-  abbrev p : Position
-  p = placed start.args.position
+  short : ltb longest_row n ≡ false
+  short = le-ltb _ _ c.if2.false
 
-  abbrev tests : List Test
-  tests = row_position_tests m (length l) p
-
-  some : 0 < length l
-  some = omega arith
-
--- nor is the position
-passed : (c : tie.After-enum-told) → Passed (tests c.before.before.before)
-passed c = none_refuses (tests c.before.before.before) (sym c.before.before.judge-position.ensures ∙ ap tested c.enum_told.given.1)
-
-value_at_requires : tie.Need-value-at-requires
-value_at_requires c κs = let row = c.before.before.before in on_row (m row) (length (l row)) (p row) (some row) row.if2.false (passed c)
+bad_factor_requires : tie.Need-bad-factor-requires
+bad_factor_requires c κs = search rules
 
 returns_3 : tie.Need-returns-3
-returns_3 c =
-    let row = c.before.before.before.before in
-    let r : SFits w32 c.value-at.result = sfits_of c.value-at.type-inv in
-    ap value (to_z-of_z r ∙ c.value-at.ensures)
-    ∙ sym (judged_passed (tests row) _ _ (passed c.before))
-    ∙ sym (row_value_judged (m row) (l row) (p row) (some row) row.if2.false)
+unfolding row_value
+returns_3 c = let r = c.before.before in simp (some r, short r, sym c.before.bad-factor.ensures ∙ c.if3.true)
+
+-- nor is the factor
+module _ (c : tie.Else3) where
+  abbrev row : tie.Else2
+  row = c.before.before
+
+  good_factor : outside greatest_factor (start row).args.m ≡ false
+  good_factor = sym c.before.bad-factor.ensures ∙ c.if3.false
+
+bad_numerator_requires : tie.Need-bad-numerator-requires
+bad_numerator_requires c κs = search rules
 
 returns_4 : tie.Need-returns-4
+unfolding row_value
 returns_4 c =
-    let j = c.before.before.before in
-    let row = j.before in
-    sym (row_value_judged (m row) (l row) (p row) (some row) row.if2.false
-    ∙ first_refuses (tests row) _ _ _ (sym j.judge-position.ensures ∙ ap tested c.before.r.given.1))
+    let f = c.before.before in
+    simp (some (row f), short (row f), good_factor f, sym c.before.bad-numerator.ensures ∙ c.if4.true)
+
+-- nor is the numerator
+module _ (c : tie.Else4) where
+  abbrev factored : tie.Else3
+  factored = c.before.before
+
+  good_numerator : bad_numerator (start (row factored)).args.m (placed (start (row factored)).args.position) ≡ false
+  good_numerator = sym c.before.bad-numerator.ensures ∙ c.if4.false
+
+past_end_requires : tie.Need-past-end-requires
+past_end_requires c κs = search rules
+
+returns_5 : tie.Need-returns-5
+unfolding row_value
+returns_5 c =
+    let g = c.before.before in
+    let f = factored g in
+    simp (some (row f), short (row f), good_factor f, good_numerator g, sym c.before.past-end.ensures ∙ c.if5.true)
+
+-- nor is the place
+module _ (c : tie.Else5) where
+  abbrev below : tie.Else4
+  below = c.before.before
+
+  on_row : past_end (n (row (factored below))) (placed (start (row (factored below))).args.position) ≡ false
+  on_row = sym c.before.past-end.ensures ∙ c.if5.false
+
+value_at_requires : tie.Need-value-at-requires
+value_at_requires c κs =
+    let f = factored (below c) in
+    record {
+      short = (row f).if2.left;
+      factor = factor _ (good_factor f);
+      on = inside _ _ _ (omega arith) (good_numerator (below c)) (on_row c);
+    }
+
+returns_6 : tie.Need-returns-6
+unfolding row_value
+returns_6 c =
+    let e = c.before in
+    let f = factored (below e) in
+    let r : SFits w32 c.value-at.result = sfits_of c.value-at.type-inv in
+    simp (some (row f), short (row f), good_factor f, good_numerator (below e), on_row e) (ap value (to_z-of_z r ∙ c.value-at.ensures))
 
 pub value_spec : {M : Type 1} → statement M
 value_spec =
@@ -76,9 +114,11 @@ value_spec =
     (tie.spec
     returns
     returns_2
-    (λ c κs. search rules)
-    (λ c. search rules)
-    value_at_requires
-    (λ c. search rules)
+    bad_factor_requires
     returns_3
-    returns_4)
+    bad_numerator_requires
+    returns_4
+    past_end_requires
+    returns_5
+    value_at_requires
+    returns_6)

@@ -1,4 +1,4 @@
--- `codes::refusal_code` meets its contract: a byte is cast and negated without loss. Assumes nothing.
+-- `harness::refusal_code` meets its contract: a byte is cast and negated without loss. Assumes nothing.
 use mathlib.Core.Path.{◌≡◌, ap, ◌∙◌}
 use native.Mathlib.Omega.{arith}
 use borrow.Author.Rules.{rules}
@@ -7,8 +7,8 @@ use lib.IntN.{pos, neg_ℤ, ◌-ℤ◌}
 use mir.Syntax.{w64}
 use Rattle.integers.proofs.Linear.{reify, show}
 use Rattle.integers.proofs.Words.{Word, counted, literal, minus}
-use Rattle.codes.proofs.refusal_code.Statement.{statement}
-use Rattle.codes.proofs.refusal_code.Tie as tie
+use Rattle.harness.proofs.refusal_code.Statement.{statement}
+use Rattle.harness.proofs.refusal_code.Tie as tie
 
 byte_requires : tie.Need-byte-requires
 byte_requires c κs = search rules

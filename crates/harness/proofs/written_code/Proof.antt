@@ -1,11 +1,11 @@
--- `codes::written_code` meets its contract: the code of a count is that of `count_code`, and of a refusal that of `refusal_code`.
+-- `harness::written_code` meets its contract: the code of a count is that of `count_code`, and of a refusal that of `refusal_code`.
 -- Assumes nothing.
 use borrow.Author.Rules.{rules, sfits_of}
 use Rattle.answers.specs.Answers.{written}
-use Rattle.codes.specs.Codes.{code}
-use Rattle.codes.proofs.Cases.{case_code}
-use Rattle.codes.proofs.written_code.Statement.{statement}
-use Rattle.codes.proofs.written_code.Tie as tie
+use Rattle.harness.specs.Codes.{code}
+use Rattle.harness.proofs.Coded.{case_code}
+use Rattle.harness.proofs.written_code.Statement.{statement}
+use Rattle.harness.proofs.written_code.Tie as tie
 
 returns : tie.Need-returns
 returns c = case_code (λ w. code (written w)) (sfits_of c.count_code.type-inv) c.count_code.ensures c.before.before.w.given.1

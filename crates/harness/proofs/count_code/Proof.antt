@@ -1,12 +1,12 @@
--- `codes::count_code` meets its contract: a count up to 2^63 - 1 is cast without loss. Assumes nothing.
+-- `harness::count_code` meets its contract: a count up to 2^63 - 1 is cast without loss. Assumes nothing.
 use mathlib.Core.Path.{ap, ◌∙◌}
 use native.Mathlib.Omega.{arith}
 use borrow.Author.Rules.{rules}
 use lib.IntN.{pos}
 use mir.Facts.{to_z_pos}
 use mir.Syntax.{w64}
-use Rattle.codes.proofs.count_code.Statement.{statement}
-use Rattle.codes.proofs.count_code.Tie as tie
+use Rattle.harness.proofs.count_code.Statement.{statement}
+use Rattle.harness.proofs.count_code.Tie as tie
 
 cast_result : tie.Need-overflow-cast-result
 cast_result c = search rules

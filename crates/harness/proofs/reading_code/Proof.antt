@@ -1,11 +1,11 @@
--- `codes::reading_code` meets its contract: the code of a clip is that of `clip_code`, and of a refusal that of `refusal_code`.
+-- `harness::reading_code` meets its contract: the code of a clip is that of `clip_code`, and of a refusal that of `refusal_code`.
 -- Assumes nothing.
 use borrow.Author.Rules.{rules, sfits_of}
 use Rattle.wav.specs.Answers.{answered}
-use Rattle.codes.specs.Codes.{clip_code}
-use Rattle.codes.proofs.Cases.{case_code}
-use Rattle.codes.proofs.reading_code.Statement.{statement}
-use Rattle.codes.proofs.reading_code.Tie as tie
+use Rattle.harness.specs.Codes.{clip_code}
+use Rattle.harness.proofs.Coded.{case_code}
+use Rattle.harness.proofs.reading_code.Statement.{statement}
+use Rattle.harness.proofs.reading_code.Tie as tie
 
 returns : tie.Need-returns
 returns c = case_code (λ r. clip_code (answered r)) (sfits_of c.clip-code.type-inv) c.clip-code.ensures c.before.before.r.given.1

@@ -1,4 +1,4 @@
--- `codes::valued_code` meets its contract: a value is widened, and a refusal's number, a byte, is added to 2^32. Assumes nothing.
+-- `harness::valued_code` meets its contract: a value is widened, and a refusal's number, a byte, is added to 2^32. Assumes nothing.
 use mathlib.Core.Path.{sym, ap, ◌∙◌}
 use Prim.Native.Nat.{◌+◌, ◌^◌}
 use native.Mathlib.Omega.{arith}
@@ -10,9 +10,9 @@ use mir.Syntax.{w32, w64}
 use mir.Val.{SFits}
 use Rattle.integers.proofs.Words.{Word, counted, literal, plus}
 use Rattle.answers.specs.Answers.{valued}
-use Rattle.codes.specs.Codes.{value_code}
-use Rattle.codes.proofs.valued_code.Statement.{statement}
-use Rattle.codes.proofs.valued_code.Tie as tie
+use Rattle.harness.specs.Codes.{value_code}
+use Rattle.harness.proofs.valued_code.Statement.{statement}
+use Rattle.harness.proofs.valued_code.Tie as tie
 
 enum_known_v : tie.Need-enum-known-v
 enum_known_v c = search rules

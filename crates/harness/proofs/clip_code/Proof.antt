@@ -1,4 +1,4 @@
--- `codes::clip_code` meets its contract: the rate and the cut count make a number under 2^48, which is cast without loss. Assumes nothing.
+-- `harness::clip_code` meets its contract: the rate and the cut count make a number under 2^48, which is cast without loss. Assumes nothing.
 use mathlib.Core.Logic.{⊎_elim}
 use mathlib.Core.Path.{◌≡◌, ap, ◌∙◌}
 use Prim.Native.Nat.{◌+◌, ◌*◌, min}
@@ -7,8 +7,8 @@ use borrow.Author.Rules.{rules}
 use lib.IntN.{pos}
 use mir.Facts.{to_z_pos}
 use mir.Syntax.{w64}
-use Rattle.codes.proofs.clip_code.Statement.{statement}
-use Rattle.codes.proofs.clip_code.Tie as tie
+use Rattle.harness.proofs.clip_code.Statement.{statement}
+use Rattle.harness.proofs.clip_code.Tie as tie
 
 cut : (c : tie.Joined1) → c.if1.low ≡ min c.before.args.count 65535
 cut c = ⊎_elim (λ w. omega (arith, w.0.taken, w.1)) (λ w. omega (arith, w.0.left, w.1)) c.if1.branch

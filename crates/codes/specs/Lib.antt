@@ -1,2 +1,0 @@
--- What the contracts of the codes cite.
-pub mod Codes
