@@ -1,7 +1,7 @@
 // Which factors, sides, layouts, numerators and places are refused.
 ghost use Rattle.std.specs.Prelude.{◌≡◌, ◌<◌};
 ghost use Rattle.bspline.specs.Limits.{greatest_factor};
-ghost use Rattle.bspline.specs.Refusals.{bad_coefficients, bad_numerator, bad_pixels, bad_sides, outside as Refusals·outside, past_end};
+ghost use Rattle.bspline.specs.Refusals.{bad_coefficients, bad_numerator, bad_pixels, bad_sides, outside, past_end};
 ghost use Rattle.answers.specs.Answers.{described, placed};
 ghost use Rattle.answers.specs.Limits.{GoodSides};
 
@@ -10,14 +10,14 @@ use crate::{Position, Shape};
 
 // Whether a number is 0 or above a limit.
 pub fn outside(limit: usize, n: usize) -> bool
-    ensures { result ≡ Refusals·outside limit n }
+    ensures { result ≡ outside limit n }
 {
     n == 0 || limit < n
 }
 
 // Whether a factor is refused.
 pub fn bad_factor(m: usize) -> bool
-    ensures { result ≡ Refusals·outside greatest_factor m }
+    ensures { result ≡ outside greatest_factor m }
 {
     outside(GREATEST_FACTOR, m)
 }

@@ -1,5 +1,7 @@
 // What the operations answer, how pictures and positions are described, and what is refused. specs/Answers.antt reads the enums and structs as the
 // answers and descriptions of the specification.
+#![tactic(auto)]
+
 pub mod checks;
 pub mod counts;
 pub mod limits;

@@ -73,6 +73,7 @@ holds_only (transforms s C) h = tt
 all_hold : {es : List Example} (e : Example) → All es → Memᴰ e es → Holds e
 all_hold e (h also a) (Memᴰ.head p) = rw p h
 all_hold e (h also a) (Memᴰ.tail m) = all_hold e a m
+all_hold e end m = elim m [ ]
 
 -- the listed solutions of M7, M8, M9 and M13 are the only ones
 pub listed_solutions_unique : (e : Example) → Memᴰ e examples → OnlySolution e

@@ -1,1 +1,2 @@
 // The definitions of the cubic spline transforms (specs/) and the theory of them (proofs/): no code.
+#![tactic(auto)]

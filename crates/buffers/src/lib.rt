@@ -1,4 +1,6 @@
 // Whole buffers: samples and pixels brought to the coefficients' unit, and the work slice cleared.
+#![tactic(auto)]
+
 ghost use Rattle.std.specs.Prelude.{◌≡◌, ◌≤◌, pos, length, replicate};
 ghost use Rattle.bspline.specs.PictureLayout.{area, extent};
 ghost use Rattle.answers.specs.Answers.{described};

@@ -1,4 +1,6 @@
 // The weighted sums along the columns of a picture: a row of them serves a whole row of values.
+#![tactic(auto)]
+
 ghost use Rattle.std.specs.Prelude.{◌≡◌, ◌+◌, ◌*◌, ◌^◌, ◌≤◌, ◌<◌, pos, ◌-ℤ◌};
 ghost use Rattle.integers.specs.Bound.{Within};
 ghost use Rattle.bspline.specs.Bounds.{AllWithin, sizes};

@@ -1,5 +1,7 @@
 // Cubics of the numerator between two places: their differences, by which a cubic goes from one numerator to the next with three sums and no
 // product, and their rounded quotients. The weighted sum of four numbers is such a cubic.
+#![tactic(auto)]
+
 pub mod quotients;
 pub mod weighted;
 

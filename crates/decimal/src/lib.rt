@@ -1,4 +1,6 @@
 // Numbers as decimal text, put into a buffer that the caller lends.
+#![tactic(auto)]
+
 ghost use Rattle.std.specs.Prelude.{◌++◌, ◌≡◌, ◌+◌, ◌≤◌, ◌<◌, ◌^◌, length};
 ghost use Rattle.decimal.specs.Buffers.{Put};
 ghost use Rattle.decimal.specs.Decimal.{places, last_digits, field, signed_field};

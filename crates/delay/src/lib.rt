@@ -1,5 +1,7 @@
 // The delay between two hydrophones, for the track plotter: how many samples later a click starts on the first than on the second. It stands above the
 // library and knows of it the contract of `onset::find` and the numbers of its refusals. specs/Outcomes.antt says what is answered.
+#![tactic(auto)]
+
 ghost use Rattle.std.specs.Prelude.{◌≡◌};
 ghost use Rattle.delay.specs.Answers.{number, measured};
 ghost use Rattle.delay.specs.Outcomes.{exact_factor, no_delay, unmeasured as Outcomes·unmeasured, find_delay, Measured};

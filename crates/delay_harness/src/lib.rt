@@ -1,5 +1,7 @@
 // The delay between two rows with the C calling convention, for tests and benchmarks in other languages, as `harness` has the library's operations. Those
 // who call the plotter use `delay`.
+#![tactic(auto)]
+
 ghost use Rattle.std.specs.Prelude.{◌≡◌};
 ghost use Rattle.delay.specs.Outcomes.{find_delay};
 ghost use Rattle.delay_harness.specs.Codes.{coded_delay};

@@ -1,5 +1,7 @@
 // The operations with the C calling convention, for tests and benchmarks in other languages. No part of the library: nothing in the
 // repository but tests/, bench/ and a drawing of examples/ uses it.
+#![tactic(auto)]
+
 ghost use Rattle.std.specs.Prelude.{◌≡◌, ◌+◌, ◌-◌, ◌*◌, ◌^◌, min, pos, neg_ℤ};
 ghost use Rattle.bspline.specs.Outcomes.{row_transform, picture_transform, row_zoom, picture_enlargement, row_value, picture_value};
 ghost use Rattle.answers.specs.Answers.{number, valued, written};

@@ -1,4 +1,6 @@
 // Laws of the integers, for proofs (docs/INTEGERS.md says how they are used), and the one function of which several crates have need.
+#![tactic(auto)]
+
 ghost use Rattle.std.specs.Prelude.{◌≡◌, nat_abs};
 
 // A number without its sign.

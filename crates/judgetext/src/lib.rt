@@ -1,4 +1,6 @@
 // Which texts are refused, and what sizes the rows of the others have. specs/Outcomes.antt defines what a text gives.
+#![tactic(auto)]
+
 pub mod room;
 
 ghost use Rattle.std.specs.Prelude.{◌≡◌};

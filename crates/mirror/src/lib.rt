@@ -1,4 +1,6 @@
 // The mirrored index: which number of a row is read where an index leads past an end.
+#![tactic(auto)]
+
 ghost use Rattle.std.specs.Prelude.{◌≡◌, ◌≤◌, ◌<◌, ◌^◌, pos, ◌-ℤ◌};
 ghost use Rattle.bspline.specs.Mirror.{mirror};
 

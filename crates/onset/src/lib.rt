@@ -1,4 +1,6 @@
 // Where a click starts in a row of zoomed values. specs/Outcomes.antt says what is answered.
+#![tactic(auto)]
+
 mod measures;
 mod runs;
 

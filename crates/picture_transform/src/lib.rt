@@ -1,4 +1,6 @@
 // Picture transform. Pixels may lie in a larger slice; coefficients are closely packed.
+#![tactic(auto)]
+
 ghost use Rattle.std.specs.Prelude.{◌≡◌, max};
 ghost use Rattle.bspline.specs.Exact.{PictureAccurate};
 ghost use Rattle.bspline.specs.Outcomes.{picture_transform};

@@ -1,4 +1,6 @@
 // The values from places of a row on, made of sums along columns.
+#![tactic(auto)]
+
 ghost use Rattle.std.specs.Prelude.{◌*◌, ◌^◌, pos, nat_abs};
 ghost use Rattle.rounding.specs.Roundable.{Unit};
 ghost use Rattle.answers.specs.Limits.{Factor};

@@ -1,4 +1,6 @@
 // Prints numbers after words, and what operations answer, for the programs that run the worked examples.
+#![tactic(auto)]
+
 use spline::limits::{GREATEST_FACTOR, MARGINS, MOST_VALUES};
 use spline::{Position, Valued, Written};
 

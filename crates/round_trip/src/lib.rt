@@ -1,5 +1,7 @@
 // A caller that knows the contracts of the library and nothing else: the value at a sample, of coefficients that were made a moment before, is 256
 // times the sample. No part of the library: its proof shows that two theorems about the operations are enough to get there.
+#![tactic(auto)]
+
 ghost use Rattle.answers.specs.Answers.{placed, valued};
 ghost use Rattle.round_trip.specs.Asked.{Asked};
 ghost use Rattle.round_trip.specs.Returns.{Returns};

@@ -1,5 +1,7 @@
 // Division of signed 64-bit numbers rounded down, and rounded to the nearest whole number. The rule for a tie stands in `half`, and for even divisors
 // in `round_even`.
+#![tactic(auto)]
+
 ghost use Rattle.std.specs.Prelude.{◌≡◌, ◌+◌, ◌*◌, ◌/◌, ◌≤◌, ◌<◌, ◌^◌, pos, nat_abs, ◌<ℤ◌};
 ghost use Rattle.integers.specs.Division.{floor, modulo};
 ghost use Rattle.integers.specs.Rounding.{round};

@@ -1,4 +1,6 @@
 // Row transform.
+#![tactic(auto)]
+
 ghost use Rattle.std.specs.Prelude.{◌≡◌};
 ghost use Rattle.bspline.specs.Exact.{RowAccurate};
 ghost use Rattle.bspline.specs.Outcomes.{row_transform};

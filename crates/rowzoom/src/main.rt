@@ -1,5 +1,7 @@
 // rowzoom: reads a factor and samples as text, and prints the values of the row's spline. What a text means, what is printed, how long the arrays
 // are and which parts there are is the crate rowtext's; this program reads, calls it and writes.
+#![tactic(auto)]
+
 ghost use Rattle.std.specs.Prelude.{◌≤◌, length};
 
 use rowtext::output::{more_parts, print_part};

@@ -4,6 +4,8 @@
 // What an operation computes is defined in the crate `bspline` (specs/); the crate `answers` reads the enums and structs as its answers and
 // descriptions. The operations are written and proved in the crates `row_transform`, `picture_transform`, `values`, `zoom` and `enlarge`;
 // callers name them here.
+#![tactic(auto)]
+
 pub mod picture;
 pub mod row;
 

@@ -1,4 +1,6 @@
 // Weighted sums of coefficients: what a value between samples is rounded from.
+#![tactic(auto)]
+
 pub mod pictures;
 pub mod rows;
 pub mod table;

@@ -1,5 +1,7 @@
 // Takes turns among sixteen stations (a round-robin arbiter): whose clip comes next. It holds no clip and calls no transform; a caller transforms the clip
 // of the station that a turn names. specs/Outcomes.antt says what is answered and which state is left.
+#![tactic(auto)]
+
 ghost use Rattle.std.specs.Prelude.{◌≡◌, ◌<◌};
 ghost use Rattle.turns.specs.Answers.{number, state, announcement, named, turned};
 ghost use Rattle.turns.specs.Outcomes.{refusal, announce as Outcomes·announce, turn as Outcomes·turn};

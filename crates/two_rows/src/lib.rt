@@ -1,6 +1,8 @@
 // Callers that know contracts and nothing else, of two rows. Where the rows differ at one sample, their coefficients are near each other, and so are their
 // values at one position; where the second is the reversed row, which has every sample negated, the values are opposite. No part of the library: their
 // proofs show that the theorems about two rows are enough to get there, and that for coefficients and values that are near each other it takes one each.
+#![tactic(auto)]
+
 ghost use Rattle.answers.specs.Answers.{placed, valued, written};
 ghost use Rattle.two_rows.specs.TwoRows.{BothAsked, BothTransformed, NearCoefficients, NearValues, Opposites};
 

@@ -1,4 +1,6 @@
 // Reads a clip from a WAVE file in memory. specs/Outcomes.antt of the crate wavefile says what is answered and what is left in the sample buffer.
+#![tactic(auto)]
+
 mod formats;
 mod samples;
 

@@ -1,5 +1,7 @@
 // Runs the worked example of WAVE files and prints what the operations answer: the bytes of a clip through read, row transform and row zoom. The file
 // stdout has what is right.
+#![tactic(auto)]
+
 use report::UNSET;
 use spline::limits::MARGINS;
 use wav::Reading;

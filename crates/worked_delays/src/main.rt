@@ -1,5 +1,7 @@
 // Runs the worked examples of delays and prints what is answered: two rows of three samples go through row transform and row zoom into the measurement, and
 // rows of zeros go there as they are. The file stdout has what is right.
+#![tactic(auto)]
+
 use delay::Measurement;
 use report::{VALUES, WORK};
 use spline::limits::GREATEST_FACTOR;

@@ -1,5 +1,7 @@
 // Runs the worked examples of enlarging and prints what it answers: pixels go through picture transform into it. The file stdout has what is right.
 // Where only sizes matter the coefficients are zeros.
+#![tactic(auto)]
+
 use report::UNSET;
 use spline::Shape;
 use spline::limits::{GREATEST_FACTOR, MARGINS};

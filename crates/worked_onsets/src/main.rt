@@ -1,5 +1,7 @@
 // Runs the worked examples of onsets and prints what the search answers: rows of samples go through row transform and row zoom into it. The file stdout has
 // what is right.
+#![tactic(auto)]
+
 use onset::Detection;
 use onset::limits::{GREATEST_FACTOR, MOST_VALUES};
 use report::{TOO_MANY, VALUES, WORK};

@@ -1,4 +1,6 @@
 // Runs worked examples of pictures through the operations and prints what they answer. The file stdout has what is right.
+#![tactic(auto)]
+
 use spline::limits::{GREATEST_FACTOR, GREATEST_PITCH, LONGEST_SIDE, LONGEST_SIDE_WORK, MARGINS};
 use spline::{Position, Shape};
 

@@ -1,5 +1,7 @@
 // Runs the worked examples of rows through the operations and prints what they answer. The file stdout has what is right. Where only lengths
 // matter the row is of zeros.
+#![tactic(auto)]
+
 use report::UNSET;
 use spline::Position;
 use spline::limits::{GREATEST_FACTOR, LONGEST_ROW, LONGEST_ROW_WORK, MARGINS, MOST_VALUES};

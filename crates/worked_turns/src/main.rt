@@ -1,5 +1,7 @@
 // Runs the worked example of turns: sixteen stations, one of which announces before every turn. The clip of each station that a turn names goes through the
 // row transform. The file stdout has what is right.
+#![tactic(auto)]
+
 use spline::limits::MARGINS;
 use turns::{Named, Reply, STATIONS, TurnTaker};
 

@@ -1,4 +1,6 @@
 // Text to values: the values of the samples that a text holds, from a buffer's start.
+#![tactic(auto)]
+
 ghost use Rattle.std.specs.Prelude.{◌≡◌, ◌+◌, length};
 ghost use Rattle.bspline.specs.Limits.{longest_row};
 ghost use Rattle.bspline.specs.Outcomes.{row_zoom};
