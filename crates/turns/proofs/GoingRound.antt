@@ -133,6 +133,10 @@ found_waits waiting from n k h e =
     let p = found_place waiting from n k e in
     (subst (λ (j : ℕ). j < stations) p.comes (onward_inside p.d from h), p.waits)
 
+-- the same as the code reads it: whoever the search names is a place in the array
+pub found_inside : (waiting : List Bool) (from n k : ℕ) → from < stations → some k ≡ first_waiting waiting from n → k < stations
+found_inside waiting from n k h e = (found_waits waiting from n k h (sym e)).0
+
 -- ---- one step of the search, and its end
 pub first_step : (waiting : List Bool) (k n : ℕ) → 0 < n →
     first_waiting waiting k n ≡ cond (get_or waiting k false) (some k) (first_waiting waiting (station_after k) (n - 1))

@@ -4,8 +4,8 @@
 
 ghost use Rattle.std.specs.Prelude.{◌≡◌, ◌<◌};
 ghost use Rattle.turns.specs.Answers.{number, state, announcement, named, turned};
-ghost use Rattle.turns.specs.Outcomes.{refusal, announce as Outcomes·announce, turn as Outcomes·turn};
-ghost use Rattle.turns.specs.States.{fresh as States·fresh, stations, station_after, first_waiting};
+ghost use Rattle.turns.specs.Outcomes.{refusal, announce, turn};
+ghost use Rattle.turns.specs.States.{fresh, stations, station_after, first_waiting};
 
 // How many stations there are. They are numbered from 0.
 pub const STATIONS: usize = 16;
@@ -105,7 +105,7 @@ fn first_waiting(marks: [bool; STATIONS], from: usize) -> Named
 impl TurnTaker {
     // Nobody waits, and a turn begins with station 0.
     pub fn fresh() -> Self
-        ensures { state result ≡ States·fresh }
+        ensures { state result ≡ fresh }
     {
         Self {
             waiting: [false; STATIONS],
@@ -114,8 +114,9 @@ impl TurnTaker {
     }
 
     // A station has a clip that waits.
+    #[tactic(auto, unfolding(crate::specs::Outcomes::announce))]
     pub fn announce(self, station: usize) -> Announcement
-        ensures { announcement result ≡ Outcomes·announce (state self) station }
+        ensures { announcement result ≡ announce (state self) station }
     {
         if STATIONS <= station {
             return refused(self, Refusal::NoStation);
@@ -135,8 +136,9 @@ impl TurnTaker {
     }
 
     // Names the first station that waits after the one served last, and clears its mark.
+    #[tactic(auto, using(crate::proofs::GoingRound::found_inside), unfolding(crate::specs::Outcomes::turn))]
     pub fn turn(self) -> Turn
-        ensures { turned result ≡ Outcomes·turn (state self) }
+        ensures { turned result ≡ turn (state self) }
     {
         let mut waiting = self.waiting;
         match first_waiting(waiting, after(self.last)) {
