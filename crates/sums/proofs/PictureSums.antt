@@ -6,7 +6,6 @@ use native.Mathlib.Omega.{arith}
 use lib.IntN.{ℤ, nat_abs}
 use Rattle.bspline.specs.Bounds.{AllWithin, sizes}
 use Rattle.bspline.specs.PictureLayout.{Shape, pixel}
-use Rattle.bspline.specs.Lists.{at}
 use Rattle.bspline.specs.Values.{Position, weights, support, dot, row_sum, picture_sum}
 use Rattle.bspline.proofs.Weights.{sixth, weights_sizes, dot_size, picture_sum_rows}
 use Rattle.sums.specs.Sums.{Sums}

@@ -6,7 +6,7 @@ ghost use Rattle.bspline.specs.Values.{cube, weights};
 ghost use Rattle.sums.specs.Weights.{weighed};
 
 // The weights on the coefficients at the places k - 1, k, k + 1 and k + 2.
-#[derive(Drop)]
+#[derive(Clone, Copy)]
 pub struct Weights {
     pub before: i32,
     pub here: i32,
