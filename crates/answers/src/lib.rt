@@ -10,7 +10,7 @@ ghost use Rattle.std.specs.Prelude.{◌≡◌};
 ghost use Rattle.answers.specs.Answers.{number};
 
 // Why a call is refused. A new one is a line here, one in `byte` and one in `number` of specs/Answers.antt.
-#[derive(Drop)]
+#[derive(Clone, Copy)]
 pub enum Refusal {
     EmptyRow,
     LongRow,
@@ -64,21 +64,21 @@ impl Refusal {
 }
 
 // What a transform, row zoom and enlarging answer: how many numbers were written, or the refusal.
-#[derive(Drop)]
+#[derive(Clone, Copy)]
 pub enum Written {
     Count(usize),
     Refused(Refusal),
 }
 
 // What row value and picture value answer: the value in units of 1/256 of a count, or the refusal.
-#[derive(Drop)]
+#[derive(Clone, Copy)]
 pub enum Valued {
     Value(i32),
     Refused(Refusal),
 }
 
 // A picture's description: its sides, and the distance from one row's start to the next, counted in numbers of the slice.
-#[derive(Drop)]
+#[derive(Clone, Copy)]
 pub struct Shape {
     pub width: usize,
     pub height: usize,
@@ -86,7 +86,7 @@ pub struct Shape {
 }
 
 // A position between the data of a row, or along one side of a picture: k + j / m, where the factor m is passed beside it.
-#[derive(Drop)]
+#[derive(Clone, Copy)]
 pub struct Position {
     pub k: usize,
     pub j: usize,

@@ -17,7 +17,7 @@ use sums::rows::{Four, dot, number_at};
 use sums::weights::Weights;
 
 // Where four rows of a picture start in its coefficients: those of the places l - 1, l, l + 1 and l + 2.
-#[derive(Drop)]
+#[derive(Clone, Copy)]
 pub struct Starts {
     pub before: usize,
     pub here: usize,

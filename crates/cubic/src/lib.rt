@@ -9,7 +9,7 @@ ghost use Rattle.std.specs.Prelude.{pos};
 ghost use Rattle.cubic.specs.Cubics.{CubicSmall, DifferencesAt, DifferencesSmall, Stepped};
 
 // A cubic of the numerator, by its coefficients from the power 0 up.
-#[derive(Drop)]
+#[derive(Clone, Copy)]
 pub struct Cubic {
     pub zero: i64,
     pub one: i64,
@@ -19,7 +19,7 @@ pub struct Cubic {
 
 // A cubic at one numerator: its value, by how much this grows to the next numerator, by how much that growth grows, and by how much that one
 // does, which is the same at every numerator.
-#[derive(Drop)]
+#[derive(Clone, Copy)]
 pub(crate) struct Differences {
     pub value: i64,
     pub first: i64,

@@ -9,7 +9,7 @@ ghost use Rattle.delay.specs.Outcomes.{exact_factor, no_delay, unmeasured as Out
 use onset::Detection;
 
 // Why a call is refused: for what the search for an onset refuses, or for what the plotter does.
-#[derive(Drop)]
+#[derive(Clone, Copy)]
 pub enum Refusal {
     Search(onset::Refusal),
     InexactFactor,
@@ -30,7 +30,7 @@ impl Refusal {
 }
 
 // The first position less the second one, in samples, and the heights of both onsets, in counts.
-#[derive(Drop)]
+#[derive(Clone, Copy)]
 pub struct Delay {
     pub samples: f64,
     pub first_height: f64,
@@ -38,7 +38,7 @@ pub struct Delay {
 }
 
 // What is answered: the delay, or the refusal.
-#[derive(Drop)]
+#[derive(Clone, Copy)]
 pub enum Measurement {
     Delay(Delay),
     Refused(Refusal),

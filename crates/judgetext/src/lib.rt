@@ -17,7 +17,7 @@ use readtext::text::{Numbers, read_numbers};
 pub const LONGEST_TEXT: usize = 65536;
 
 // What an accepted text has: its samples, its factor and the count of its values.
-#[derive(Drop)]
+#[derive(Clone, Copy)]
 pub struct Sizes {
     pub samples: usize,
     pub factor: usize,
@@ -25,7 +25,7 @@ pub struct Sizes {
 }
 
 // What is answered of a text: the sizes of its row, or the refusal.
-#[derive(Drop)]
+#[derive(Clone, Copy)]
 pub enum Zoomed {
     Row(Sizes),
     Refused(Refusal),

@@ -15,7 +15,7 @@ use answers::limits::MOST_VALUES;
 pub use answers::{Refusal, limits};
 
 // What a search answers: an onset, by its position in samples and its height in counts; a row without one, by its greatest height; or the refusal.
-#[derive(Drop)]
+#[derive(Clone, Copy)]
 pub enum Detection {
     Onset(f64, f64),
     Quiet(f64),

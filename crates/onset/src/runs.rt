@@ -7,7 +7,7 @@ ghost use Rattle.onset.specs.Runs.{first_run, greater as Runs·greater, greatest
 const RUN: usize = 8;
 
 // Where a run starts.
-#[derive(Drop)]
+#[derive(Clone, Copy)]
 pub(crate) enum Place {
     At(usize),
     Nowhere,

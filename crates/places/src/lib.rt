@@ -14,7 +14,7 @@ use sums::rows::Four;
 use sums::weights::Weights;
 
 // The sums along the columns of the places k - 1, k and k + 1.
-#[derive(Drop)]
+#[derive(Clone, Copy)]
 struct Three {
     before: i64,
     here: i64,

@@ -7,7 +7,7 @@ ghost use Rattle.readtext.specs.Readings.{size_of, number_read};
 const TOO_LARGE: u64 = 100000;
 
 // What a line means: a number, or nothing.
-#[derive(Drop)]
+#[derive(Clone, Copy)]
 pub(crate) enum Number {
     Is(i16),
     Illegal,

@@ -5,7 +5,7 @@ ghost use Rattle.readtext.specs.Readings.{Reads};
 use crate::line::{Number, line_number};
 
 // What a text means: so many numbers, or nothing.
-#[derive(Drop)]
+#[derive(Clone, Copy)]
 pub enum Numbers {
     Count(usize),
     Illegal,

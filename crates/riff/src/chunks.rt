@@ -6,14 +6,14 @@ ghost use Rattle.riff.specs.Places.{Begins, format_at, WholeChunk, WholeFormat, 
 use crate::fields::{four_bytes, named};
 
 // The size of a chunk's body, if the chunk and its pad byte end within the file.
-#[derive(Drop)]
+#[derive(Clone, Copy)]
 pub(crate) enum Chunk {
     Whole(usize),
     Cut,
 }
 
 // Where a file has its chunks: the "fmt " chunk begins at `format`, the body of the "data" chunk at `content`.
-#[derive(Drop)]
+#[derive(Clone, Copy)]
 pub enum Places {
     Chunks {
         format: usize,

@@ -12,7 +12,7 @@ use crate::weights::Weights;
 use mirror::mirrored;
 
 // Four numbers, at the places k - 1, k, k + 1 and k + 2: coefficients, or sums of them.
-#[derive(Drop)]
+#[derive(Clone, Copy)]
 pub struct Four {
     pub before: i64,
     pub here: i64,

@@ -11,14 +11,14 @@ ghost use Rattle.turns.specs.States.{fresh, stations, station_after, first_waiti
 pub const STATIONS: usize = 16;
 
 // The state: which stations wait, and which one was served last. Every value is one; a number above 15 for the station served last counts as 15.
-#[derive(Drop)]
+#[derive(Clone, Copy)]
 pub struct TurnTaker {
     pub waiting: [bool; STATIONS],
     pub last: usize,
 }
 
 // Why an announcement is refused.
-#[derive(Drop)]
+#[derive(Clone, Copy)]
 pub enum Refusal {
     NoStation,
     AlreadyWaiting,
@@ -37,28 +37,28 @@ impl Refusal {
 }
 
 // What an announcement answers.
-#[derive(Drop)]
+#[derive(Clone, Copy)]
 pub enum Reply {
     Accepted,
     Refused(Refusal),
 }
 
 // The answer of an announcement, and the next state.
-#[derive(Drop)]
+#[derive(Clone, Copy)]
 pub struct Announcement {
     pub answer: Reply,
     pub next: TurnTaker,
 }
 
 // What a turn answers: the station whose clip comes next.
-#[derive(Drop)]
+#[derive(Clone, Copy)]
 pub enum Named {
     Station(usize),
     Nobody,
 }
 
 // The answer of a turn, and the next state.
-#[derive(Drop)]
+#[derive(Clone, Copy)]
 pub struct Turn {
     pub answer: Named,
     pub next: TurnTaker,

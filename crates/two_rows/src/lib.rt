@@ -10,7 +10,7 @@ use round_trip::value_of_row;
 use spline::{Position, Valued, Written};
 
 // What is answered of the transforms of two rows.
-#[derive(Drop)]
+#[derive(Clone, Copy)]
 pub struct Counts {
     pub first: Written,
     pub second: Written,
@@ -38,7 +38,7 @@ pub fn transforms_of_two(
 }
 
 // What is answered of the values of two rows.
-#[derive(Drop)]
+#[derive(Clone, Copy)]
 pub struct Answers {
     pub first: Valued,
     pub second: Valued,

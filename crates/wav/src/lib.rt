@@ -13,7 +13,7 @@ pub use answers::{Refusal, limits};
 use riff::chunks::Places;
 
 // What reading answers: a clip, or the refusal.
-#[derive(Drop)]
+#[derive(Clone, Copy)]
 pub enum Reading {
     Clip { count: usize, rate: u32 },
     Refused(Refusal),
