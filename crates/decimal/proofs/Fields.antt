@@ -1,13 +1,15 @@
--- The fields of a line: how long they are at most, and three put one after the other. Assumes nothing.
+-- The fields of a line: how long they are at most, three put one after the other, and one written digits first. Assumes nothing.
 use mathlib.Core.List.{List, ◌++◌}
-use Prim.Native.Nat.{ℕ, suc, ◌+◌, ◌≤◌, ◌<◌, ◌^◌}
+use mathlib.Core.Path.{◌≡◌, sym, ap, ◌∙◌, subst}
+use Prim.Native.Nat.{ℕ, suc, ◌+◌, ◌-◌, ◌≤◌, ◌<◌, ◌^◌}
 use native.Mathlib.Omega.{arith}
+use borrow.Rule.Slice.PartMut.{mid_of, put_mid, mid_len}
 use lib.IntN.{ℤ}
-use lib.ListN.{length, length-append}
+use lib.ListN.{length, set, length-append}
 use Rattle.decimal.specs.Buffers.{Put}
-use Rattle.decimal.specs.Decimal.{field, signed_field}
-use Rattle.decimal.proofs.Buffers.{put_then, put_keeps}
-use Rattle.decimal.proofs.Places.{places_few, field_size, signed_short}
+use Rattle.decimal.specs.Decimal.{places, last_digits, decimal, field, signed_field}
+use Rattle.decimal.proofs.Buffers.{put_then, put_keeps, put_byte, put_part}
+use Rattle.decimal.proofs.Places.{places_few, decimal_length, field_size, signed_short}
 
 -- a number of at most d + 1 digits, and the byte after it
 pub field_short : (n end d : ℕ) → n < 10 ^ suc d → d ≤ 9 → length (field n end) ≤ d + 2
@@ -20,3 +22,45 @@ pub put_three : {at e f g : ℕ} {a b c w x y z : List ℕ} → Put at a w x e �
     at + length a + length b + length c ≤ length w → Put at (a ++ (b ++ c)) w z g
 put_three p q r room =
     put_then p (put_then q r (omega (arith, p.ends, put_keeps p (omega arith)))) (simp length-append (omega arith))
+
+-- ---- a field written in two steps: its digits into the part that is lent, and the byte after them
+-- the digits end before the buffer does
+pub digits_stop : (n end at k size : ℕ) → k ≡ places n → at + length (field n end) ≤ size → at + k < size
+digits_stop n end at k size e room = omega (arith, field_size n end)
+
+-- what the calls ensure: k digits of n, all of them, are in the part of the buffer x that was lent from a place on
+pub record Filled (n end at k : ℕ) (x part : List ℕ) : Type 0 where
+  pub count : k ≡ places n
+  pub room : at + length (field n end) ≤ length x
+  pub written : part ≡ last_digits (length (mid_of at (at + k - at) x)) n
+
+module _ {n end at k : ℕ} {x part : List ℕ} (f : Filled n end at k x part) where
+  abbrev after : List ℕ
+  after = put_mid at (at + k - at) x part
+
+  stop_within : at + k < length x
+  stop_within = digits_stop n end at k (length x) f.count f.room
+
+  size : at + k - at ≡ k
+  size = omega arith
+
+  part_is : part ≡ decimal n
+  unfolding decimal
+  part_is = f.written ∙ ap (λ (m : ℕ). last_digits m n) (mid_len at (at + k) x (omega (arith, stop_within)) ∙ size ∙ f.count)
+
+  part_length : length part ≡ at + k - at
+  part_length = ap length part_is ∙ decimal_length n ∙ sym f.count ∙ sym size
+
+  digits_put : Put at (decimal n) x after (at + k)
+  digits_put =
+      let lent = put_part at (at + k - at) x part part_length in
+      record {
+        all = (subst (λ (l : List ℕ). Put at l x after (at + (at + k - at))) part_is lent).all;
+        ends = ap (λ (m : ℕ). at + m) (f.count ∙ sym (decimal_length n));
+      }
+
+  pub stop_inside : at + k < length after
+  stop_inside = rw (put_keeps digits_put (omega (arith, decimal_length n, stop_within))) stop_within
+
+  pub field_put : Put at (field n end) x (set after (at + k) end) (at + k + 1)
+  field_put = put_then digits_put (put_byte (at + k) end after stop_inside) (omega (arith, decimal_length n, stop_within))

@@ -75,6 +75,7 @@ pub fn put_word(word: &[u8], n: u64, end: u8, out: &mut [u8]) -> usize
     requires { (n < 10 ^ 10) × (length word.now + length (field n end) ≤ length out.old) }
     ensures { Put 0 (word.now ++ field n end) out.old out.new result }
 {
-    let at = bytes::copy(word, out);
+    let at = word.len();
+    out[..at].copy_from_slice(word);
     put_field(n, end, out, at)
 }
