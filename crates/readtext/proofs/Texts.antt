@@ -3,21 +3,47 @@ use mathlib.Core.Bool.{Bool, true, false, cond}
 use mathlib.Core.List.{List, [], ◌∷◌, ◌++◌, append_assoc, append-nil}
 use mathlib.Core.Option.{Option, none, some}
 use mathlib.Core.Path.{◌≡◌, refl, sym, ap, ap₂, ◌∙◌}
-use Prim.Native.Nat.{ℕ, suc, ◌+◌, ◌-◌, ◌≤◌, ◌<◌}
+use Prim.Native.Nat.{ℕ, zero, suc, ◌+◌, ◌-◌, ◌≤◌, ◌<◌}
 use native.Mathlib.Numerals.{add-one}
 use native.Mathlib.Omega.{arith}
+use borrow.Author.Tests.{eq-eqb, ne_eqb}
 use lib.Dec.{eqb}
 use lib.IntN.{ℤ}
 use lib.ListN.{length, take, drop, set, get_or, length-append, length-drop, drop_of_length-le}
 use lib.NonEmpty.{one, ◌∷⁺◌}
-use lib.Seq.{take-nil, drop-drop, take-length}
-use Rattle.bytes.specs.Bytes.{slice, index_of, index_after}
+use lib.Seq.{take-nil, drop-drop}
 use Rattle.readtext.specs.Numbers.{line_number, longer, lines, and_then, line_numbers, numbers}
 use Rattle.readtext.specs.Readings.{Holds}
 
+-- ---- the first place of a byte
+-- one place on if the byte at the front is not it
+abbrev pub index_after : Bool → ℕ → ℕ
+index_after true k = 0
+index_after false k = suc k
+
+-- the first place where a list has a, or its length if it has none
+unfoldable pub index_of : ℕ → List ℕ → ℕ
+index_of a [] = 0
+index_of a (b ∷ bs) = index_after (eqb b a) (index_of a bs)
+
+-- a place that has a and no place before that has it
+pub found_at : (a : ℕ) (l : List ℕ) (k : ℕ) → k < length l → get_or l k 0 ≡ a → ((j : ℕ) → j < k → get_or l j 0 ≡ a → ⊥) → index_of a l ≡ k
+unfolding index_of
+found_at a [] k h e before = absurd (omega arith)
+found_at a (b ∷ bs) zero h e before = rw (eq-eqb b a e) refl
+found_at a (b ∷ bs) (suc k) h e before =
+    rw (ne_eqb b a (before 0 (omega arith))) (ap suc (found_at a bs k (omega arith) e (λ j less. before (suc j) (omega arith))))
+
+-- no place has it
+pub found_nowhere : (a : ℕ) (l : List ℕ) → ((j : ℕ) → j < length l → get_or l j 0 ≡ a → ⊥) → index_of a l ≡ length l
+unfolding index_of
+found_nowhere a [] not_at = refl
+found_nowhere a (b ∷ bs) not_at =
+    rw (ne_eqb b a (not_at 0 (omega arith))) (ap suc (found_nowhere a bs (λ j less. not_at (suc j) (omega arith))))
+
 -- ---- a text without a line feed, and one that goes on after its first
 lines_last : (l : List ℕ) → index_of 10 l ≡ length l → lines l ≡ one l
-unfolding lines index_of index_after
+unfolding lines index_of
 lines_last [] e = refl
 lines_last (b ∷ bs) e = by_test (eqb b 10) (lines_last bs) e
   where
@@ -27,7 +53,7 @@ lines_last (b ∷ bs) e = by_test (eqb b 10) (lines_last bs) e
     by_test false rest e = ap (longer b) (rest (omega arith))
 
 lines_more : (l : List ℕ) → index_of 10 l < length l → lines l ≡ take (index_of 10 l) l ∷⁺ lines (drop (suc (index_of 10 l)) l)
-unfolding lines index_of index_after
+unfolding lines index_of
 lines_more [] h = absurd (omega arith)
 lines_more (b ∷ bs) h = by_test (index_of 10 bs) (eqb b 10) (lines_more bs) h
   where
@@ -97,11 +123,7 @@ one_kept (b ∷ bs) (r ∷ rs) z e = ap₂ (λ x l. x ∷ l) (ap (λ l. get_or l
 
 -- where the line from a place ends: before its line feed or at the text's end
 module _ {text : List ℕ} {buffer : List ℤ} {from count end : ℕ} (p : Progress text buffer from count) (more : from < length text)
-    (e : end ≡ from + index_of 10 (slice from (length text) text)) where
-  ends : end ≡ from + index_of 10 (drop from text)
-  unfolding slice
-  ends = rw (take-length text) at e
-
+    (ends : end ≡ from + index_of 10 (drop from text)) where
   -- the last line has no line feed
   pub progress_cut : end ≡ length text → numbers text ≡ none
   progress_cut h =

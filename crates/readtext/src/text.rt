@@ -27,10 +27,10 @@ pub fn read_numbers(text: &[u8], buffer: &mut [i16]) -> Numbers
     let mut from = 0;
     let mut count = 0;
     while from < text.len() {
-        let end = bytes::scan::find(text, from, text.len(), b'\n');
-        if end == text.len() {
+        let Some(line) = memchr::memchr(b'\n', &text[from..]) else {
             return Numbers::Illegal;
-        }
+        };
+        let end = from + line;
         let number = line_number(&text[from..end]);
         let Number::Is(z) = number else {
             return Numbers::Illegal;
