@@ -3,102 +3,107 @@
 
 use spline::limits::{GREATEST_FACTOR, MARGINS, MOST_VALUES};
 use spline::{Position, Valued, Written};
+use std::io;
+use std::io::Print;
+
+// Words, or what else is to be printed as it is.
+pub fn words<P: Print>(rt: &P, words: &[u8]) -> io::Result<()> {
+    Print::write_all(rt, words)
+}
 
 // A number after words.
-pub fn number(words: &[u8], n: usize) {
-    io::write_all(1, words);
-    io::print_decimal(1, n as u64);
+pub fn number<P: Print>(rt: &P, words: &[u8], n: usize) -> io::Result<()> {
+    Print::write_all(rt, words)?;
+    print!(rt; "{n}")
 }
 
 // A number with its sign after words.
-pub fn signed(words: &[u8], v: i32) {
-    io::write_all(1, words);
+pub fn signed<P: Print>(rt: &P, words: &[u8], v: i32) -> io::Result<()> {
+    Print::write_all(rt, words)?;
     if v < 0 {
-        io::write_all(1, b"-");
+        Print::write_all(rt, b"-")?;
     }
-    io::print_decimal(1, integers::magnitude(v));
+    let size = integers::magnitude(v);
+    print!(rt; "{size}")
 }
 
 // The digits of a number below 10^8, all eight.
-fn decimals(n: u64) {
-    let mut unit = 10000000;
-    while 0 < unit {
-        io::print_decimal(1, n / unit % 10);
-        unit /= 10;
-    }
+fn decimals<P: Print>(rt: &P, n: u64) -> io::Result<()> {
+    print!(rt; "{n:08}")
 }
 
 // A number from 0 up, with eight decimals: as many as a multiple of 1/256 has. What is past them is cut off.
-fn unsigned(x: f64) {
+fn unsigned<P: Print>(rt: &P, x: f64) -> io::Result<()> {
     let scaled = x * 100000000.0;
     if scaled > -1.0 {
         if scaled < 18446744073709551616.0 {
             let n = std::num::truncating_f64_to_u64(scaled);
-            io::print_decimal(1, n / 100000000);
-            io::write_all(1, b".");
-            decimals(n % 100000000)
+            let whole = n / 100000000;
+            print!(rt; "{whole}.")?;
+            return decimals(rt, n % 100000000);
         }
     }
+    Ok(())
 }
 
 // The same after words, with its sign if it is below 0.
-pub fn real(words: &[u8], x: f64) {
-    io::write_all(1, words);
+pub fn real<P: Print>(rt: &P, words: &[u8], x: f64) -> io::Result<()> {
+    Print::write_all(rt, words)?;
     if x < 0.0 {
-        io::write_all(1, b"-");
-        unsigned(-x)
+        Print::write_all(rt, b"-")?;
+        unsigned(rt, -x)
     } else {
-        unsigned(x)
+        unsigned(rt, x)
     }
 }
 
 // A sample after words.
-pub fn sample(words: &[u8], s: i16) {
-    signed(words, s as i32)
+pub fn sample<P: Print>(rt: &P, words: &[u8], s: i16) -> io::Result<()> {
+    signed(rt, words, s as i32)
 }
 
 // What a buffer of values holds where none was written. No value of the examples is 1.
 pub const UNSET: i32 = 1;
 
 // A value if it was written.
-fn listed(v: i32) {
+fn listed<P: Print>(rt: &P, v: i32) -> io::Result<()> {
     if v != UNSET {
-        signed(b", ", v);
+        signed(rt, b", ", v)?;
     }
+    Ok(())
 }
 
 // The values that were written.
-pub fn list(values: &[i32]) {
-    let mut i = 0;
-    while i < values.len() {
-        listed(values[i]);
-        i += 1;
+pub fn list<P: Print>(rt: &P, values: &[i32]) -> io::Result<()> {
+    for v in values {
+        listed(rt, *v)?;
     }
+    Ok(())
 }
 
 // A position at a factor after words.
-pub fn place(words: &[u8], p: Position, m: usize) {
-    number(words, p.k);
-    number(b" + ", p.j);
-    number(b"/", m)
+pub fn place<P: Print>(rt: &P, words: &[u8], p: Position, m: usize) -> io::Result<()> {
+    number(rt, words, p.k)?;
+    number(rt, b" + ", p.j)?;
+    number(rt, b"/", m)
 }
 
 // The answer of a transform, of row zoom or of enlarging ends a line.
-pub fn written(answer: Written) {
+pub fn written<P: Print>(rt: &P, answer: Written) -> io::Result<()> {
     match answer {
-        Written::Count(n) => number(b": ", n),
-        Written::Refused(r) => number(b": refused ", r.number()),
+        Written::Count(n) => number(rt, b": ", n)?,
+        Written::Refused(r) => number(rt, b": refused ", r.number())?,
     }
-    io::write_all(1, b"\n");
+    Print::write_all(rt, b"\n")
 }
 
 // The answer of row value or of picture value ends a line.
-pub fn valued(answer: Valued) {
+pub fn valued<P: Print>(rt: &P, answer: Valued) -> io::Result<()> {
     match answer {
-        Valued::Value(v) => signed(b": ", v),
-        Valued::Refused(r) => number(b": refused ", r.number()),
+        Valued::Value(v) => signed(rt, b": ", v)?,
+        Valued::Refused(r) => number(rt, b": refused ", r.number())?,
     }
-    io::write_all(1, b"\n");
+    Print::write_all(rt, b"\n")
 }
 
 // The work that a row of three samples takes, and how many values it has at the greatest factor.

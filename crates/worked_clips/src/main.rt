@@ -4,6 +4,8 @@
 
 use report::UNSET;
 use spline::limits::MARGINS;
+use std::io;
+use std::io::Print;
 use wav::Reading;
 
 // The file of the samples 0, 1, 0 at 96,000 a second: the header, the "fmt " chunk and the "data" chunk.
@@ -17,28 +19,28 @@ const WORK: usize = 3 + MARGINS;
 const VALUES: usize = 9;
 
 // The answer of read ends a line.
-fn reading(answer: Reading) {
+fn reading<P: Print>(rt: &P, answer: Reading) -> io::Result<()> {
     match answer {
         Reading::Clip { count, rate } => {
-            report::number(b": ", count);
-            report::number(b" at ", rate as usize)
+            report::number(rt, b": ", count)?;
+            report::number(rt, b" at ", rate as usize)?
         }
-        Reading::Refused(r) => report::number(b": refused ", r.number()),
+        Reading::Refused(r) => report::number(rt, b": refused ", r.number())?,
     }
-    io::write_all(1, b"\n");
+    report::words(rt, b"\n")
 }
 
 // The clip's samples, and their values at factor 4.
-fn main() {
-    report::number(b"file of ", CLIP.len());
+fn main(rt: HostRuntime) -> io::Result<()> {
+    report::number(&rt, b"file of ", CLIP.len())?;
     let mut samples = [0i16; 3];
     let read = wav::read(&CLIP, &mut samples);
-    reading(read);
+    reading(&rt, read)?;
     let mut coefficients = [0i32; 3];
     spline::row::transform(&samples, &mut coefficients, &mut [0; WORK]);
     let mut values = [UNSET; VALUES];
     let answer = spline::row::zoom(&coefficients, 4, &mut values);
-    io::write_all(1, b"its row at factor 4");
-    report::list(&values);
-    report::written(answer)
+    report::words(&rt, b"its row at factor 4")?;
+    report::list(&rt, &values)?;
+    report::written(&rt, answer)
 }

@@ -5,18 +5,20 @@
 use delay::Measurement;
 use report::{VALUES, WORK};
 use spline::limits::GREATEST_FACTOR;
+use std::io;
+use std::io::Print;
 
 // The answer ends a line.
-fn measured(answer: Measurement) {
+fn measured<P: Print>(rt: &P, answer: Measurement) -> io::Result<()> {
     match answer {
         Measurement::Delay(d) => {
-            report::real(b": delay ", d.samples);
-            report::real(b", heights ", d.first_height);
-            report::real(b" and ", d.second_height)
+            report::real(rt, b": delay ", d.samples)?;
+            report::real(rt, b", heights ", d.first_height)?;
+            report::real(rt, b" and ", d.second_height)?
         }
-        Measurement::Refused(r) => report::number(b": refused ", r.number()),
+        Measurement::Refused(r) => report::number(rt, b": refused ", r.number())?,
     }
-    io::write_all(1, b"\n");
+    report::words(rt, b"\n")
 }
 
 // Three samples, of which one is 1 and the others are 0. The test is for the prover: no case has a sample past the third.
@@ -38,50 +40,62 @@ fn zoomed(sample: usize, m: usize) -> [i32; VALUES] {
 }
 
 // The delay between two clicks, each of which has 2m + 1 values. No case has a greater factor than 16; the test bounds the product.
-fn clicks(first: usize, second: usize, m: usize, threshold: i32) {
-    report::number(b"clicks at sample ", first);
-    report::number(b" and at sample ", second);
-    report::number(b", factor ", m);
-    report::signed(b", threshold ", threshold);
+fn clicks<P: Print>(
+    rt: &P,
+    first: usize,
+    second: usize,
+    m: usize,
+    threshold: i32,
+) -> io::Result<()> {
+    report::number(rt, b"clicks at sample ", first)?;
+    report::number(rt, b" and at sample ", second)?;
+    report::number(rt, b", factor ", m)?;
+    report::signed(rt, b", threshold ", threshold)?;
     let one = zoomed(first, m);
     let other = zoomed(second, m);
     let n = if m <= GREATEST_FACTOR { 2 * m + 1 } else { 0 };
-    measured(delay::between(
-        report::first_values(&one, n),
-        report::first_values(&other, n),
-        m,
-        threshold,
-    ))
+    measured(
+        rt,
+        delay::between(
+            report::first_values(&one, n),
+            report::first_values(&other, n),
+            m,
+            threshold,
+        ),
+    )
 }
 
 // The delay between so many zeros and so many others: every value reaches the threshold.
-fn rows(first: usize, second: usize, m: usize) {
-    report::number(b"rows of ", first);
-    report::number(b" and of ", second);
-    report::number(b" zeros, factor ", m);
+fn rows<P: Print>(rt: &P, first: usize, second: usize, m: usize) -> io::Result<()> {
+    report::number(rt, b"rows of ", first)?;
+    report::number(rt, b" and of ", second)?;
+    report::number(rt, b" zeros, factor ", m)?;
     let values = report::zeros();
-    measured(delay::between(
-        report::first_values(&values, first),
-        report::first_values(&values, second),
-        m,
-        0,
-    ))
+    measured(
+        rt,
+        delay::between(
+            report::first_values(&values, first),
+            report::first_values(&values, second),
+            m,
+            0,
+        ),
+    )
 }
 
-fn main() {
-    clicks(1, 2, 16, 40);
-    clicks(2, 1, 16, 40);
-    clicks(1, 1, 16, 40);
-    clicks(1, 2, 8, 27);
-    clicks(1, 2, 5, 27);
-    clicks(1, 2, 4, 27);
-    rows(8, 65521, 1);
-    rows(0, 0, 0);
-    rows(65522, 0, 0);
-    rows(8, 0, 17);
-    rows(8, 0, 3);
-    rows(8, 65522, 3);
-    rows(8, 7, 3);
-    rows(8, 7, 16);
-    rows(7, 8, 16)
+fn main(rt: HostRuntime) -> io::Result<()> {
+    clicks(&rt, 1, 2, 16, 40)?;
+    clicks(&rt, 2, 1, 16, 40)?;
+    clicks(&rt, 1, 1, 16, 40)?;
+    clicks(&rt, 1, 2, 8, 27)?;
+    clicks(&rt, 1, 2, 5, 27)?;
+    clicks(&rt, 1, 2, 4, 27)?;
+    rows(&rt, 8, 65521, 1)?;
+    rows(&rt, 0, 0, 0)?;
+    rows(&rt, 65522, 0, 0)?;
+    rows(&rt, 8, 0, 17)?;
+    rows(&rt, 8, 0, 3)?;
+    rows(&rt, 8, 65522, 3)?;
+    rows(&rt, 8, 7, 3)?;
+    rows(&rt, 8, 7, 16)?;
+    rows(&rt, 7, 8, 16)
 }

@@ -5,6 +5,8 @@
 use report::UNSET;
 use spline::Shape;
 use spline::limits::{GREATEST_FACTOR, MARGINS};
+use std::io;
+use std::io::Print;
 
 // The work that a picture takes whose longer side is three, and its values at factor 3, with one to spare.
 const WORK: usize = 3 + MARGINS;
@@ -20,10 +22,10 @@ const ROOM: usize = 6;
 const GREATEST: usize = 18446744073709551615;
 
 // 3 columns and 2 rows of pixels, all of them s but the one in the middle of the first row.
-fn enlarge(s: i16, middle: i16, m: usize) {
-    report::sample(b"picture of ", s);
-    report::sample(b" around ", middle);
-    report::number(b" at factor ", m);
+fn enlarge<P: Print>(rt: &P, s: i16, middle: i16, m: usize) -> io::Result<()> {
+    report::sample(rt, b"picture of ", s)?;
+    report::sample(rt, b" around ", middle)?;
+    report::number(rt, b" at factor ", m)?;
     let shape = Shape {
         width: 3,
         height: 2,
@@ -38,8 +40,8 @@ fn enlarge(s: i16, middle: i16, m: usize) {
     );
     let mut values = [UNSET; VALUES];
     let answer = spline::picture::enlarge(&coefficients, shape, m, &mut values);
-    report::list(&values);
-    report::written(answer)
+    report::list(rt, &values)?;
+    report::written(rt, answer)
 }
 
 // A function only so that `sizes` knows the array by its type: of an array that is written out the prover counts the elements.
@@ -48,46 +50,56 @@ fn zeros() -> [i32; MANY] {
 }
 
 // So many coefficients, and room for a few values.
-fn sizes(width: usize, height: usize, pitch: usize, count: usize, m: usize) {
-    report::number(b"picture ", width);
-    report::number(b" x ", height);
-    report::number(b" at pitch ", pitch);
-    report::number(b" in ", count);
-    report::number(b" coefficients at factor ", m);
-    report::number(b", room for ", ROOM);
+fn sizes<P: Print>(
+    rt: &P,
+    width: usize,
+    height: usize,
+    pitch: usize,
+    count: usize,
+    m: usize,
+) -> io::Result<()> {
+    report::number(rt, b"picture ", width)?;
+    report::number(rt, b" x ", height)?;
+    report::number(rt, b" at pitch ", pitch)?;
+    report::number(rt, b" in ", count)?;
+    report::number(rt, b" coefficients at factor ", m)?;
+    report::number(rt, b", room for ", ROOM)?;
     let shape = Shape {
         width,
         height,
         pitch,
     };
-    report::written(spline::picture::enlarge(
-        report::first_values(&zeros(), count),
-        shape,
-        m,
-        &mut [0; ROOM],
-    ))
+    report::written(
+        rt,
+        spline::picture::enlarge(
+            report::first_values(&zeros(), count),
+            shape,
+            m,
+            &mut [0; ROOM],
+        ),
+    )
 }
 
-fn main() {
-    enlarge(0, 1, 2);
-    enlarge(0, 4, 3);
-    enlarge(0, -4, 3);
-    enlarge(7, 7, 1);
-    enlarge(-32768, -32768, 2);
-    enlarge(0, 1, 4);
-    enlarge(0, 1, 0);
-    enlarge(0, 1, GREATEST_FACTOR + 1);
-    sizes(1, 1, 1, 1, 16);
-    sizes(3, 2, 3, 6, 1);
-    sizes(3, 1, 3, 3, 3);
-    sizes(1, 3, 1, 3, 2);
-    sizes(94, 94, 94, 8836, 11);
-    sizes(95, 94, 95, 8930, 11);
-    sizes(65, 65, 65, 4225, 16);
-    sizes(65, 65, 65, 4225, 17);
-    sizes(65, 65, 66, 4225, 17);
-    sizes(65, 65, 65, 4224, 17);
-    sizes(65, 0, 66, 4225, 17);
-    sizes(GREATEST, GREATEST, GREATEST, 1, GREATEST);
-    sizes(3, 2, 3, 6, GREATEST)
+fn main(rt: HostRuntime) -> io::Result<()> {
+    enlarge(&rt, 0, 1, 2)?;
+    enlarge(&rt, 0, 4, 3)?;
+    enlarge(&rt, 0, -4, 3)?;
+    enlarge(&rt, 7, 7, 1)?;
+    enlarge(&rt, -32768, -32768, 2)?;
+    enlarge(&rt, 0, 1, 4)?;
+    enlarge(&rt, 0, 1, 0)?;
+    enlarge(&rt, 0, 1, GREATEST_FACTOR + 1)?;
+    sizes(&rt, 1, 1, 1, 1, 16)?;
+    sizes(&rt, 3, 2, 3, 6, 1)?;
+    sizes(&rt, 3, 1, 3, 3, 3)?;
+    sizes(&rt, 1, 3, 1, 3, 2)?;
+    sizes(&rt, 94, 94, 94, 8836, 11)?;
+    sizes(&rt, 95, 94, 95, 8930, 11)?;
+    sizes(&rt, 65, 65, 65, 4225, 16)?;
+    sizes(&rt, 65, 65, 65, 4225, 17)?;
+    sizes(&rt, 65, 65, 66, 4225, 17)?;
+    sizes(&rt, 65, 65, 65, 4224, 17)?;
+    sizes(&rt, 65, 0, 66, 4225, 17)?;
+    sizes(&rt, GREATEST, GREATEST, GREATEST, 1, GREATEST)?;
+    sizes(&rt, 3, 2, 3, 6, GREATEST)
 }

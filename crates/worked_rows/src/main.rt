@@ -5,6 +5,8 @@
 use report::UNSET;
 use spline::Position;
 use spline::limits::{GREATEST_FACTOR, LONGEST_ROW, LONGEST_ROW_WORK, MARGINS, MOST_VALUES};
+use std::io;
+use std::io::Print;
 
 const TOO_LONG: usize = LONGEST_ROW + 1;
 
@@ -17,14 +19,17 @@ const MUCH_WORK: usize = TOO_LONG + MARGINS;
 const VALUES_OF_THREE: usize = 2 * GREATEST_FACTOR + 1;
 
 // So many samples, and so many words of work.
-fn transform(n: usize, work: usize) {
-    report::number(b"row of ", n);
-    report::number(b", work of ", work);
-    report::written(spline::row::transform(
-        report::first_samples(&[0; TOO_LONG], n),
-        &mut [0; TOO_LONG],
-        report::first_work(&mut [0; MUCH_WORK], work),
-    ))
+fn transform<P: Print>(rt: &P, n: usize, work: usize) -> io::Result<()> {
+    report::number(rt, b"row of ", n)?;
+    report::number(rt, b", work of ", work)?;
+    report::written(
+        rt,
+        spline::row::transform(
+            report::first_samples(&[0; TOO_LONG], n),
+            &mut [0; TOO_LONG],
+            report::first_work(&mut [0; MUCH_WORK], work),
+        ),
+    )
 }
 
 // The coefficients of a row of three.
@@ -39,29 +44,28 @@ fn three(end: i16, middle: i16) -> [i32; 3] {
 }
 
 // The values of a row of three at a factor.
-fn zoom_three(end: i16, middle: i16, m: usize) {
-    report::sample(b"row of ", end);
-    report::sample(b" around ", middle);
-    report::number(b" at factor ", m);
+fn zoom_three<P: Print>(rt: &P, end: i16, middle: i16, m: usize) -> io::Result<()> {
+    report::sample(rt, b"row of ", end)?;
+    report::sample(rt, b" around ", middle)?;
+    report::number(rt, b" at factor ", m)?;
     let mut values = [UNSET; VALUES_OF_THREE];
     let answer = spline::row::zoom(&three(end, middle), m, &mut values);
-    report::list(&values);
-    report::written(answer)
+    report::list(rt, &values)?;
+    report::written(rt, answer)
 }
 
 // A constant row at every factor.
-fn constant(s: i16) {
-    let mut m = 1;
-    while m <= GREATEST_FACTOR {
-        zoom_three(s, s, m);
-        m += 1;
+fn constant<P: Print>(rt: &P, s: i16) -> io::Result<()> {
+    for m in 1..GREATEST_FACTOR + 1 {
+        zoom_three(rt, s, s, m)?;
     }
+    Ok(())
 }
 
 // The value of (0, 1, 0) at a position.
-fn value(p: Position, m: usize) {
-    report::place(b"row of 0 around 1, place ", p, m);
-    report::valued(spline::row::value(&three(0, 1), p, m))
+fn value<P: Print>(rt: &P, p: Position, m: usize) -> io::Result<()> {
+    report::place(rt, b"row of 0 around 1, place ", p, m)?;
+    report::valued(rt, spline::row::value(&three(0, 1), p, m))
 }
 
 // A function only so that `zoom_longest` knows the array by its type: of an array that is written out the prover counts the elements.
@@ -70,41 +74,45 @@ fn many_values() -> [i32; MOST_VALUES] {
 }
 
 // The longest row at the greatest factor, with room for so many values. No example asks for more than there is.
-fn zoom_longest(room: usize) {
-    report::number(b"row of ", LONGEST_ROW);
-    report::number(b" at factor ", GREATEST_FACTOR);
-    report::number(b", room for ", room);
+fn zoom_longest<P: Print>(rt: &P, room: usize) -> io::Result<()> {
+    report::number(rt, b"row of ", LONGEST_ROW)?;
+    report::number(rt, b" at factor ", GREATEST_FACTOR)?;
+    report::number(rt, b", room for ", room)?;
     let mut values = many_values();
     if room <= MOST_VALUES {
-        report::written(spline::row::zoom(&[0; LONGEST_ROW], GREATEST_FACTOR, &mut values[0..room]))
+        report::written(
+            rt,
+            spline::row::zoom(&[0; LONGEST_ROW], GREATEST_FACTOR, &mut values[0..room]),
+        )?;
     }
+    Ok(())
 }
 
-fn main() {
-    zoom_three(0, 1, 4);
-    zoom_three(0, 4, 16);
-    zoom_three(0, -4, 16);
-    zoom_three(0, 1, 0);
-    zoom_three(0, 1, GREATEST_FACTOR + 1);
-    constant(-32768);
-    constant(7);
-    constant(32767);
-    value(Position { k: 0, j: 0 }, 0);
-    value(Position { k: 0, j: 0 }, GREATEST_FACTOR + 1);
-    value(Position { k: 2, j: 0 }, 2);
-    value(Position { k: 1, j: 1 }, 2);
-    value(Position { k: 2, j: 1 }, 2);
-    value(Position { k: 3, j: 0 }, 2);
-    value(Position { k: 1, j: 2 }, 2);
-    value(Position { k: 3, j: 2 }, 2);
-    transform(0, MUCH_WORK);
-    transform(1, MUCH_WORK);
-    transform(LONGEST_ROW, MUCH_WORK);
-    transform(TOO_LONG, MUCH_WORK);
-    transform(3, WORK_OF_THREE - 1);
-    transform(3, WORK_OF_THREE);
-    transform(LONGEST_ROW, LONGEST_ROW_WORK - 1);
-    transform(LONGEST_ROW, LONGEST_ROW_WORK);
-    zoom_longest(MOST_VALUES - 1);
-    zoom_longest(MOST_VALUES)
+fn main(rt: HostRuntime) -> io::Result<()> {
+    zoom_three(&rt, 0, 1, 4)?;
+    zoom_three(&rt, 0, 4, 16)?;
+    zoom_three(&rt, 0, -4, 16)?;
+    zoom_three(&rt, 0, 1, 0)?;
+    zoom_three(&rt, 0, 1, GREATEST_FACTOR + 1)?;
+    constant(&rt, -32768)?;
+    constant(&rt, 7)?;
+    constant(&rt, 32767)?;
+    value(&rt, Position { k: 0, j: 0 }, 0)?;
+    value(&rt, Position { k: 0, j: 0 }, GREATEST_FACTOR + 1)?;
+    value(&rt, Position { k: 2, j: 0 }, 2)?;
+    value(&rt, Position { k: 1, j: 1 }, 2)?;
+    value(&rt, Position { k: 2, j: 1 }, 2)?;
+    value(&rt, Position { k: 3, j: 0 }, 2)?;
+    value(&rt, Position { k: 1, j: 2 }, 2)?;
+    value(&rt, Position { k: 3, j: 2 }, 2)?;
+    transform(&rt, 0, MUCH_WORK)?;
+    transform(&rt, 1, MUCH_WORK)?;
+    transform(&rt, LONGEST_ROW, MUCH_WORK)?;
+    transform(&rt, TOO_LONG, MUCH_WORK)?;
+    transform(&rt, 3, WORK_OF_THREE - 1)?;
+    transform(&rt, 3, WORK_OF_THREE)?;
+    transform(&rt, LONGEST_ROW, LONGEST_ROW_WORK - 1)?;
+    transform(&rt, LONGEST_ROW, LONGEST_ROW_WORK)?;
+    zoom_longest(&rt, MOST_VALUES - 1)?;
+    zoom_longest(&rt, MOST_VALUES)
 }

@@ -3,6 +3,8 @@
 #![tactic(auto)]
 
 use spline::limits::MARGINS;
+use std::io;
+use std::io::Print;
 use turns::{Named, Reply, STATIONS, TurnTaker};
 
 // The station that is never quiet.
@@ -21,60 +23,58 @@ fn clip(station: usize) -> [i16; 3] {
 }
 
 // Transforms the clip of the station that has its turn, and prints the coefficients.
-fn transform(station: usize) {
-    report::number(b"turn of ", station);
+fn transform<P: Print>(rt: &P, station: usize) -> io::Result<()> {
+    report::number(rt, b"turn of ", station)?;
     let mut coefficients = [report::UNSET; 3];
     let answer = spline::row::transform(&clip(station), &mut coefficients, &mut [0; WORK]);
-    report::list(&coefficients);
-    report::written(answer)
+    report::list(rt, &coefficients)?;
+    report::written(rt, answer)
 }
 
 // A station announces a clip, and the next state is returned.
-fn announce(taker: TurnTaker, station: usize) -> TurnTaker {
-    report::number(b"station ", station);
+fn announce<P: Print>(rt: &P, taker: TurnTaker, station: usize) -> io::Result<TurnTaker> {
+    report::number(rt, b"station ", station)?;
     let done = taker.announce(station);
     let answer = done.answer;
     match answer {
-        Reply::Accepted => {
-            io::write_all(1, b": accepted");
-        }
-        Reply::Refused(r) => report::number(b": refused ", r.number()),
+        Reply::Accepted => { report::words(rt, b": accepted")? }
+        Reply::Refused(r) => report::number(rt, b": refused ", r.number())?,
     }
-    io::write_all(1, b"\n");
-    done.next
+    report::words(rt, b"\n")?;
+    Ok(done.next)
 }
 
 // A turn with the clip of the station that it names, and the next state is returned.
-fn turn(taker: TurnTaker) -> TurnTaker {
+fn turn<P: Print>(rt: &P, taker: TurnTaker) -> io::Result<TurnTaker> {
     let done = taker.turn();
     let answer = done.answer;
     match answer {
-        Named::Station(station) => transform(station),
-        Named::Nobody => {
-            io::write_all(1, b"turn of nobody\n");
-        }
+        Named::Station(station) => transform(rt, station)?,
+        Named::Nobody => { report::words(rt, b"turn of nobody\n")? }
     }
-    done.next
+    Ok(done.next)
 }
 
 // Every station announces, and after them one that there is not.
-fn announce_all(fresh: TurnTaker) -> TurnTaker {
+fn announce_all<P: Print>(rt: &P, fresh: TurnTaker) -> io::Result<TurnTaker> {
     let mut taker = fresh;
     for station in 0..STATIONS + 1 {
-        taker = announce(taker, station);
+        taker = announce(rt, taker, station)?;
     }
-    taker
+    Ok(taker)
 }
 
 // Eighteen turns, before each of which the station that is never quiet announces.
-fn take_turns(announced: TurnTaker) -> TurnTaker {
+fn take_turns<P: Print>(rt: &P, announced: TurnTaker) -> io::Result<TurnTaker> {
     let mut taker = announced;
     for _ in 0..STATIONS + 2 {
-        taker = turn(announce(taker, NEVER_QUIET));
+        taker = turn(rt, announce(rt, taker, NEVER_QUIET)?)?;
     }
-    taker
+    Ok(taker)
 }
 
-fn main() {
-    take_turns(announce_all(turn(TurnTaker::fresh())));
+fn main(rt: HostRuntime) -> io::Result<()> {
+    let first = turn(&rt, TurnTaker::fresh())?;
+    take_turns(&rt, announce_all(&rt, first)?)?;
+    Ok(())
 }
