@@ -48,6 +48,7 @@ fn value_on(c: &[i32], shape: Shape, x: Position, y: Position, m: usize) -> Valu
 }
 
 // Picture value: the spline of w × h coefficients, closely packed, at a position along each side, in units of 1/256 of a count.
+#[tactic(auto, unfolding(bspline::specs::Outcomes::picture_value))]
 pub fn value(coefficients: &[i32], shape: Shape, x: Position, y: Position, m: usize) -> Valued
     ensures { valued result ≡ picture_value m (described shape) coefficients.now (placed x) (placed y) }
 {

@@ -22,6 +22,7 @@ fn value_at(c: &[i32], k: usize, j: usize, m: usize) -> i32
 }
 
 // Row value: the spline of n coefficients at a position, in units of 1/256 of a count.
+#[tactic(auto, unfolding(bspline::specs::Outcomes::row_value))]
 pub fn value(coefficients: &[i32], position: Position, m: usize) -> Valued
     ensures { valued result ≡ row_value m coefficients.now (placed position) }
 {
