@@ -1,6 +1,6 @@
 // The header of a file and its chunks.
 ghost use Rattle.std.specs.Prelude.{◌≡◌, ◌≤◌, ◌<◌, length, drop};
-ghost use Rattle.wavefile.specs.Chunks.{headed as Chunks·headed, kept};
+ghost use Rattle.wavefile.specs.Chunks.{headed, kept};
 ghost use Rattle.riff.specs.Places.{Begins, format_at, WholeChunk, WholeFormat, Walked, Finds};
 
 use crate::fields::{four_bytes, named};
@@ -32,7 +32,7 @@ const LEAST_FORMAT: u32 = 16;
 
 // Whether the file has both marks and its size.
 fn headed(bytes: &[u8]) -> bool
-    ensures { result ≡ Chunks·headed bytes.now }
+    ensures { result ≡ headed bytes.now }
 {
     if bytes.len() < HEADER {
         return false;
