@@ -1,18 +1,18 @@
 // Places and values as floating-point numbers.
 ghost use Rattle.std.specs.Prelude.{◌≡◌, ◌≤◌, ◌^◌};
-ghost use Rattle.onset.specs.Measures.{position as Measures·position, height as Measures·height};
+ghost use Rattle.onset.specs.Measures.{position, height};
 
 // A place over the factor, in samples.
 pub(crate) fn position(place: usize, m: usize) -> f64
     requires { (place ≤ 2 ^ 53) × (m ≤ 2 ^ 53) }
-    ensures { result ≡ Measures·position m place }
+    ensures { result ≡ position m place }
 {
     place as f64 / m as f64
 }
 
 // A value over its units, in counts.
 pub(crate) fn height(v: i32) -> f64
-    ensures { result ≡ Measures·height v }
+    ensures { result ≡ height v }
 {
     v as f64 / 256.0
 }

@@ -1,7 +1,7 @@
 // Runs of values that reach a threshold, and the greatest value.
 ghost use Rattle.std.specs.Prelude.{◌≡◌, ◌<◌, length};
 ghost use Rattle.onset.specs.Answers.{started};
-ghost use Rattle.onset.specs.Runs.{first_run, greater as Runs·greater, greatest as Runs·greatest};
+ghost use Rattle.onset.specs.Runs.{first_run, greater, greatest};
 
 // How many values in a row make a run.
 const RUN: usize = 8;
@@ -42,7 +42,7 @@ pub(crate) fn first(values: &[i32], threshold: i32) -> Place
 
 // The greater of two values.
 fn greater(v: i32, w: i32) -> i32
-    ensures { result ≡ Runs·greater v w }
+    ensures { result ≡ greater v w }
 {
     if v < w { w } else { v }
 }
@@ -51,7 +51,7 @@ fn greater(v: i32, w: i32) -> i32
 // comparisons waits for nothing. The last value, which a row of odd length has beside its halves, comes first.
 pub(crate) fn greatest(values: &[i32]) -> i32
     requires { 0 < length values.now }
-    ensures { result ≡ Runs·greatest values.now }
+    ensures { result ≡ greatest values.now }
 {
     let n = values.len();
     let half = n / 2;
