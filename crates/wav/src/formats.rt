@@ -1,7 +1,7 @@
 // What a "fmt " chunk says.
 ghost use Rattle.std.specs.Prelude.{◌≡◌, drop};
 ghost use Rattle.wavefile.specs.Chunks.{body};
-ghost use Rattle.wavefile.specs.Formats.{plain as Formats·plain, rate as Formats·rate};
+ghost use Rattle.wavefile.specs.Formats.{plain, rate};
 ghost use Rattle.riff.specs.Places.{LongFormat};
 
 use riff::fields::{four_bytes, two_bytes};
@@ -18,7 +18,7 @@ const BITS: usize = 22;
 // Whether the chunk at a place has the format that is read.
 pub(crate) fn plain(bytes: &[u8], format: usize) -> bool
     requires { LongFormat bytes.now format }
-    ensures { result ≡ Formats·plain (body (drop format bytes.now)) }
+    ensures { result ≡ plain (body (drop format bytes.now)) }
 {
     if two_bytes(bytes, format + TAG) != 1 {
         return false;
@@ -32,7 +32,7 @@ pub(crate) fn plain(bytes: &[u8], format: usize) -> bool
 // Its samples a second.
 pub(crate) fn rate(bytes: &[u8], format: usize) -> u32
     requires { LongFormat bytes.now format }
-    ensures { result ≡ Formats·rate (body (drop format bytes.now)) }
+    ensures { result ≡ rate (body (drop format bytes.now)) }
 {
     four_bytes(bytes, format + RATE)
 }

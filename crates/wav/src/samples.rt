@@ -1,7 +1,7 @@
 // Samples from their bytes.
 ghost use Rattle.std.specs.Prelude.{◌≡◌, ◌+◌, ◌*◌, ◌≤◌, length};
 ghost use Rattle.bspline.specs.Limits.{longest_row};
-ghost use Rattle.wavefile.specs.Samples.{signed, samples as Samples·samples};
+ghost use Rattle.wavefile.specs.Samples.{signed, samples as the_samples};
 
 use answers::limits::LONGEST_ROW;
 
@@ -19,7 +19,7 @@ fn sample(low: u8, high: u8) -> i16
 // Writes the samples of twice as many bytes over a whole row.
 fn decode(content: &[u8], row: &mut [i16])
     requires { length content.now ≡ 2 * length row.old }
-    ensures { row.new ≡ Samples·samples content.now }
+    ensures { row.new ≡ the_samples content.now }
 {
     let mut i = 0;
     while i < row.len() {
@@ -51,7 +51,7 @@ fn room() -> [i16; LONGEST_ROW]
 // the other two: so it makes one copy of both loops and leaves the array out.
 pub(crate) fn fill(content: &[u8], samples: &mut [i16])
     requires { (length content.now ≡ 2 * length samples.old) × (length samples.old ≤ longest_row) }
-    ensures { samples.new ≡ Samples·samples content.now }
+    ensures { samples.new ≡ the_samples content.now }
 {
     let mut row = room();
     let count = samples.len();
