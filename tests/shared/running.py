@@ -320,25 +320,28 @@ def up_to_date(file):
     """Whether a file was built after all that it can be built of, sources and kit, was last changed."""
     if not os.path.exists(file):
         return False
-    sources = [os.path.join(folder, name) for folder, _, names in os.walk(os.path.join(ROOT, "crates")) for name in names]
+    made = os.sep + "out"
+    sources = [os.path.join(folder, name) for folder, _, names in os.walk(os.path.join(ROOT, "crates")) if made not in folder for name in names]
     changed = [os.path.join(ROOT, "crates.txt"), os.path.realpath(shutil.which("rt")), *sources]
     return all(os.path.getmtime(source) < os.path.getmtime(file) for source in changed)
 
 
-def built(count, command, place):
-    """The file of this tree that a command of the kit builds, where it is not up to date; None, with a failure counted, if that cannot be done."""
-    file = os.path.join(ROOT, place)
+def built(count, crate, command, name):
+    """The file of this name that a command of the kit builds in a crate's folder, where it is not up to date; None, with a failure counted, if that
+    cannot be done."""
+    folder = os.path.join(ROOT, "crates", crate)
+    file = os.path.join(folder, "out", name)
     if up_to_date(file):
         return file
-    done = subprocess.run(command.split(), cwd=ROOT, stdout=subprocess.PIPE, stderr=subprocess.STDOUT, text=True)
+    done = subprocess.run(command.split(), cwd=folder, stdout=subprocess.PIPE, stderr=subprocess.STDOUT, text=True)
     if done.returncode != 0 or not os.path.exists(file):
         print(done.stdout, end="")
-        count.add(False, f"FAILED: '{command}' ended with status {done.returncode}")
+        count.add(False, f"FAILED: '{command}' in {folder} ended with status {done.returncode}")
         return None
     return file
 
 
-def file_to_test(count, what, option, command, place, tools=()):
+def file_to_test(count, what, option, crate, command, name, tools=()):
     """The file that the command line names by this option, or the one of this tree, built; None, with a failure counted, if there is none."""
     parser = argparse.ArgumentParser(description=what)
     parser.add_argument("--" + option, metavar="FILE", help=f"test this {option} and build none in its place")
@@ -350,12 +353,12 @@ def file_to_test(count, what, option, command, place, tools=()):
         count.add(False, f"FAILED: there is no file '{given}'")
     if count.failed > 0:
         return None
-    return os.path.abspath(given) if given else built(count, command, place)
+    return os.path.abspath(given) if given else built(count, crate, command, name)
 
 
 def archive(crate):
-    """The command of the kit that builds the static library of a crate, and where that is then."""
-    return f"rt staticlib {crate}", f"target/staticlib/lib{crate}.a"
+    """A crate, the command of the kit that builds its static library, and that library's name."""
+    return crate, "rt lib", f"lib{crate}.a"
 
 
 def main(label, what, kind, definitions, groups, sources=(), crate="harness", beside=()):

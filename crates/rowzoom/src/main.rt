@@ -2,45 +2,74 @@
 // are and which parts there are is the crate rowtext's; this program reads, calls it and writes.
 #![tactic(auto)]
 
-ghost use Rattle.std.specs.Prelude.{◌≤◌, length};
+ghost use Rattle.std.specs.Prelude.{◌≤◌, length, IfOk};
 
 use rowtext::output::{more_parts, print_part};
 use rowtext::zoom::{judge_text, text_room, value_room, zoom_text};
 use rowtext::{LONGEST_TEXT, Zoomed};
+use std::io;
+use std::io::{Print, Read};
 
-fn write_part(zoomed: Zoomed, values: &[i32], part: usize, block: &mut [u8]) {
+fn write_part<P: Print>(
+    rt: &P,
+    zoomed: Zoomed,
+    values: &[i32],
+    part: usize,
+    block: &mut [u8],
+) -> io::Result<()> {
     let count = print_part(zoomed, values, part, block);
-    io::write_all(1, &block[..count]);
+    Print::write_all(rt, &block[..count])
 }
 
-fn write_output(zoomed: Zoomed, values: &[i32], block: &mut [u8]) {
+fn write_output<P: Print>(
+    rt: &P,
+    zoomed: Zoomed,
+    values: &[i32],
+    block: &mut [u8],
+) -> io::Result<()> {
     let mut part = 0;
     while more_parts(part) {
-        write_part(zoomed, values, part, block);
+        write_part(rt, zoomed, values, part, block)?;
         part += 1;
     }
+    Ok(())
 }
 
 // Lists the values of a text that stands at the start of the array and writes what is printed of it. Once the text has been read, the array serves for
 // each part of the output.
-fn write_values(bytes: &mut [u8], n: usize)
+fn write_values<P: Print>(rt: &P, bytes: &mut [u8], n: usize) -> io::Result<()>
     requires { n ≤ length bytes.old }
 {
     let mut values = value_room();
     let zoomed = zoom_text(&bytes[..n], &mut values);
-    write_output(zoomed, &values, bytes);
+    write_output(rt, zoomed, &values, bytes)
+}
+
+// Reads until the array is full or the input ends, and answers how many bytes it put at the array's start.
+fn read_full<R: Read>(input: &mut R, bytes: &mut [u8]) -> io::Result<usize>
+    ensures { IfOk result (λ n. n ≤ length bytes.new) }
+{
+    let mut done = 0;
+    while done < bytes.len() {
+        let more = input.read(&mut bytes[done..])?;
+        if more == 0 {
+            break;
+        }
+        done += more;
+    }
+    Ok(done)
 }
 
 // A text is judged before it gets an array for its values, which a refused one does not need. One that is too long is refused without being read.
-fn main() {
+fn main(rt: HostRuntime) -> io::Result<()> {
     let mut bytes = text_room();
-    let n = io::read_full(0, &mut bytes);
+    let n = read_full(&mut rt.stdin(), &mut bytes)?;
     if LONGEST_TEXT < n {
-        return write_values(&mut bytes, n);
+        return write_values(&rt, &mut bytes, n);
     }
     let judged = judge_text(&bytes[..n]);
     match judged {
-        Zoomed::Row(_) => write_values(&mut bytes, n),
-        Zoomed::Refused(_) => write_output(judged, &[0; 1], &mut bytes),
+        Zoomed::Row(_) => write_values(&rt, &mut bytes, n),
+        Zoomed::Refused(_) => write_output(&rt, judged, &[0; 1], &mut bytes),
     }
 }
