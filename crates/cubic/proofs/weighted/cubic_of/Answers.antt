@@ -6,7 +6,6 @@ use Rattle.integers.proofs.Words.{Word, given, counted, cast, literal, plus, min
 use Rattle.bspline.specs.Bounds.{AllWithin}
 use Rattle.bspline.specs.Limits.{greatest_factor}
 use Rattle.bspline.specs.Lists.{at}
-use Rattle.bspline.specs.Values.{weights, dot}
 use Rattle.sums.specs.declared.rows.Four.{Four}
 use Rattle.sums.specs.Sums.{greatest_sum, listed}
 use Rattle.cubic.specs.Cubics.{cubic_sum}
@@ -98,14 +97,14 @@ module _ (m : ℕ) (four : Four) (small : AllWithin greatest_sum (listed four)) 
   abbrev three : Word w64
   three = plus span three_fall (lit< tt)
 
-  -- the cubic at a numerator, as the machine has it, is the weighted sum
-  sums : (j : ℕ) → cubic_sum (record { zero = zero.operand; one = one.operand; two = two.operand; three = three.operand }) (pos j) ≡
-      dot (weights m j) (listed four)
-  sums j =
+  -- the cubic at a numerator, as the machine has it
+  reads : (j : ℕ) →
+      cubic_sum (record { zero = zero.operand; one = one.operand; two = two.operand; three = three.operand }) (pos j)
+      ≡ cubic_sum (record { zero = zero.value; one = one.value; two = two.value; three = three.value }) (pos j)
+  reads j =
       let linear = ap₂ ◌+ℤ◌ (ap (λ y. y *ℤ pos j) three.means) two.means in
       let quadratic = ap₂ ◌+ℤ◌ (ap (λ y. y *ℤ pos j) linear) one.means in
       ap₂ ◌+ℤ◌ (ap (λ y. y *ℤ pos j) quadratic) zero.means
-      ∙ cubic_sum_lem m j four.before four.here four.after four.beyond
 
 pub overflow_mul-result-2 : goal.overflow_mul-result-2
 overflow_mul-result-2 c = (cubed c.args.m c.args.c c.requires.0 c.requires.1).fits
@@ -158,7 +157,7 @@ returns c =
     let four = c.args.c in
     let small = c.requires.0 in
     let few = c.requires.1 in (
-      record { sums = sums m four small few },
+      record { sums = λ j. reads m four small few j ∙ cubic_sum_lem m j four.before four.here four.after four.beyond },
       record {
         zero = operand_small (zero m four small few);
         one = operand_small (one m four small few);
