@@ -6,9 +6,14 @@ use Prim.Native.Nat.{ℕ, ◌+◌, ◌≤◌, ◌<◌}
 use native.Mathlib.Omega.{arith}
 use borrow.Author.Tests.{lt-ltb, le-ltb, ltb-true, ltb-false}
 use lib.Dec.{ltb}
+use lib.IntN.{ℤ}
 use lib.ListN.{length, take}
 use lib.Seq.{take_all, length-take-le}
 use Rattle.readtext.specs.Numbers.{numbers}
+use Rattle.readtext.specs.Readings.{Reads}
+use Rattle.readtext.specs.declared.text.Numbers.{Numbers}
+use Rattle.readtext.specs.declared.text.Numbers.TheVariants.{Count, Illegal}
+use Rattle.judgetext.specs.Answers.{ReadsText}
 use Rattle.judgetext.specs.Limits.{longest_text}
 use Rattle.judgetext.specs.Outcomes.{refused, zoom_numbers, zoom_text}
 
@@ -29,3 +34,8 @@ cut_too_long t = by_length (ltb longest_text (length t)) refl
         let h = ltb-true longest_text (length t) e in
         too_long (take (longest_text + 1) t) (omega (arith, length-take-le (longest_text + 1) t (omega arith))) ∙ sym (too_long t h)
     by_length false e = ap zoom_text (take_all (longest_text + 1) t (omega (arith, ltb-false longest_text (length t) e)))
+
+-- what was read of a text that is not too long
+pub of_reading : (t : List ℕ) (buffer : List ℤ) (r : Numbers) → length t ≤ longest_text → Reads t buffer r → ReadsText t buffer r
+of_reading t buffer (Count n) short h = record { all = h.all; outcome = of_numbers t short ∙ ap zoom_numbers h.legal; begun = h.begun }
+of_reading t buffer Illegal short h = of_numbers t short ∙ ap zoom_numbers h

@@ -1,0 +1,12 @@
+use Rattle.std.proofs.Common.{◌∙◌, rules, arith, sym, get_or}
+use lib.IntN.{pos}
+use mir.Facts.{to_z-of_z}
+use mir.Syntax.{w16}
+use mir.Val.{SFits}
+use Rattle.judgetext.proofs.Judging.{text_judged}
+use Rattle.judgetext.proofs.judge_text.Goals as goal
+
+pub returns-in-Count : goal.returns-in-Count
+returns-in-Count c =
+    let f : SFits w16 (get_or c.read_text.new.buffer 0 (pos 0)) = search rules in
+    (rw (to_z-of_z f) at c.judge_numbers.ensures) ∙ sym (text_judged c.in-Count.ensures (omega arith))
