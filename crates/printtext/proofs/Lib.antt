@@ -2,3 +2,5 @@
 pub mod ValueLines
 pub mod PartLines
 pub mod Printing
+pub mod LineFields
+pub mod DoneLines

@@ -8,7 +8,7 @@ use lib.ListN.{length, take, drop, length-drop, drop_of_length-le}
 use lib.Seq.{length-take-le, take_all, take-nil, take-length, take-take}
 use Rattle.bspline.specs.Limits.{longest_row, greatest_factor}
 use Rattle.bspline.specs.Values.{zoom_count}
-use Rattle.judgetext.specs.Outcomes.{row}
+use Rattle.judgetext.specs.Outcomes.{row, refused}
 use Rattle.printtext.specs.Lines.{between, Lines}
 use Rattle.printtext.specs.Output.{value_lines, block, lines_of_part, part}
 
@@ -70,3 +70,9 @@ part_fits s some small inside held room = record {
   inside = omega arith;
   room = omega arith;
 }
+
+-- ---- a refusal has one part
+pub none_later : (b k : ℕ) → (b ≡ 0 → ⊥) → part b (refused k) ≡ []
+unfolding part
+none_later zero k h = absurd (h refl)
+none_later (suc b) k h = refl

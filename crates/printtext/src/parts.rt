@@ -5,7 +5,7 @@ ghost use Rattle.decimal.specs.Buffers.{Put};
 ghost use Rattle.judgetext.specs.Answers.{row_sizes, found};
 ghost use Rattle.judgetext.specs.Outcomes.{refused};
 ghost use Rattle.judgetext.specs.declared.Zoomed.TheVariants.{Row};
-ghost use Rattle.printtext.specs.Output.{block, lines_of_part, most_parts, part as Output·part};
+ghost use Rattle.printtext.specs.Output.{block, lines_of_part, most_parts, part as the_part};
 ghost use Rattle.printtext.specs.Printing.{print_part};
 
 use crate::lines::{put_header, put_lines};
@@ -43,7 +43,7 @@ fn first_line(part: usize, count: usize) -> usize
 // A part of a row's output: the first line, or lines of values.
 fn put_row_part(s: Sizes, values: &[i32], part: usize, out: &mut [u8]) -> usize
     requires { (row_sizes s ≡ true) × (s.values ≤ length values.now) × (block ≤ length out.old) }
-    ensures { Put 0 (Output·part part (found (Row s) values.now)) out.old out.new result }
+    ensures { Put 0 (the_part part (found (Row s) values.now)) out.old out.new result }
 {
     if part == 0 {
         return put_header(s, out);
@@ -56,7 +56,7 @@ fn put_row_part(s: Sizes, values: &[i32], part: usize, out: &mut [u8]) -> usize
 // A part of a refusal's output: its line, and then nothing.
 fn put_refusal_part(r: Refusal, part: usize, out: &mut [u8]) -> usize
     requires { block ≤ length out.old }
-    ensures { Put 0 (Output·part part (refused (number r))) out.old out.new result }
+    ensures { Put 0 (the_part part (refused (number r))) out.old out.new result }
 {
     if part == 0 {
         return put_word(b"refused ", r.byte() as u64, LINE_FEED, out);

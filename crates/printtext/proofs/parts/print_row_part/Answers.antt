@@ -1,0 +1,20 @@
+use Rattle.std.proofs.Common.{true, false, ◌≡◌, sym, ◌∙◌}
+use borrow.Author.Tests.{lt-leb, le-leb}
+use Rattle.judgetext.specs.Answers.{row_sizes}
+use Rattle.printtext.proofs.Printing.{not_held, put_held}
+use Rattle.printtext.proofs.parts.print_row_part.Goals as goal
+
+pub returns-then-not-row_sizes : goal.returns-then-not-row_sizes
+returns-then-not-row_sizes c =
+    let bad : row_sizes c.args.s ≡ false = sym c.row_sizes.ensures ∙ c.if-not-row_sizes.true in
+    not_held _ _ _ _ (rw bad)
+
+pub returns-then-values-s : goal.returns-then-values-s
+returns-then-values-s c =
+    let good : row_sizes c.args.s ≡ true = sym c.row_sizes.ensures ∙ c.if-not-row_sizes.false in
+    not_held _ _ _ _ (rw (good, lt-leb _ _ c.if-values-s.true))
+
+pub returns : goal.returns
+returns c =
+    let good : row_sizes c.args.s ≡ true = sym c.row_sizes.ensures ∙ c.if-not-row_sizes.false in
+    put_held _ _ _ _ (rw (good, le-leb _ _ c.if-values-s.false)) c.requires c.put_row_part.ensures
