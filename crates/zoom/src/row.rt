@@ -10,6 +10,7 @@ use answers::limits::LONGEST_ROW;
 use answers::{Refusal, Written};
 
 // Row zoom: the values at 0, 1/m, 2/m and so on to n - 1, from the buffer's start.
+#[tactic(auto, using(bspline::proofs::Zoom::zoom_length), unfolding(bspline::specs::Outcomes::row_zoom))]
 pub fn zoom(coefficients: &[i32], m: usize, values: &mut [i32]) -> Written
     ensures { record { answer = written result; values = values.new } ≡ row_zoom m coefficients.now values.old }
 {
