@@ -3,6 +3,7 @@
 pub mod Comparison
 pub mod Mirror
 pub mod Stability
+pub mod Differences
 pub mod Uniqueness
 pub mod Existence
 pub mod Lists

@@ -9,7 +9,7 @@ use lib.IntN.{nat_abs}
 use Rattle.integers.proofs.Absolute.{abs_zero}
 use Rattle.integers.proofs.Laws.{diff_zero, zero_diff}
 use Rattle.bspline.specs.Exact.{Fractions, Same, Solves, Grid, SameGrid, SolvesPicture, row, column}
-use Rattle.bspline.proofs.Stability.{difference, difference_bounded}
+use Rattle.bspline.proofs.Differences.{difference, difference_bounded}
 
 -- two solutions of equal rows are equal
 pub unique : (n : ℕ) (s t x y : Fractions) → Same n s t → Solves n s x → Solves n t y → Same n x y

@@ -11,6 +11,7 @@ pub mod Ring
 pub mod Absolute
 pub mod Division
 pub mod Rounding
+pub mod Rounded
 pub mod Machine
 pub mod Words
 pub mod Signs

@@ -12,7 +12,8 @@ use Rattle.integers.proofs.Laws.{zero_diff}
 use Rattle.integers.proofs.Linear.{reify, show}
 use Rattle.bspline.specs.Exact.{Fractions, tridiagonal, Solves, whole}
 use Rattle.bspline.specs.Lists.{at}
-use Rattle.bspline.proofs.Stability.{equation_sizes, difference, difference_solves}
+use Rattle.bspline.proofs.Stability.{equation_sizes}
+use Rattle.bspline.proofs.Differences.{difference, difference_solves}
 use Rattle.reach.specs.Reach.{DifferAt, apart, SolutionsNear}
 use Rattle.reach.proofs.Halving.{falls_off}
 

@@ -13,7 +13,8 @@ use lib.Pow.{pow_mono}
 use Rattle.integers.proofs.Absolute.{abs_mul}
 use Rattle.bspline.specs.Exact.{Fractions, tridiagonal, Solves, whole}
 use Rattle.bspline.specs.Values.{Position, row_sum}
-use Rattle.bspline.proofs.Stability.{equation_sizes, difference}
+use Rattle.bspline.proofs.Stability.{equation_sizes}
+use Rattle.bspline.proofs.Differences.{difference}
 use Rattle.bspline.proofs.Weights.{cubed, sum_linear, sum_at_sample}
 use Rattle.reach.specs.Reach.{DifferAt, apart, Away, SplinesNear}
 use Rattle.reach.proofs.BetweenSamples.{between_size, most}

@@ -15,7 +15,7 @@ use Rattle.integers.proofs.Laws.{0≤_nat}
 use Rattle.integers.proofs.Linear.{reify, read, show}
 use Rattle.integers.proofs.Machine.{floor_moved}
 use Rattle.integers.proofs.Parts.{lt_of, of_lt}
-use Rattle.integers.proofs.Rounding.{round_bound}
+use Rattle.integers.proofs.Rounded.{round_bound}
 use Rattle.rounding.specs.Roundable.{RoundableEven}
 use Rattle.rounding.proofs.Nearest.{before_floor_rounds}
 

@@ -9,7 +9,7 @@ use mir.Val.{SFits}
 use Rattle.integers.specs.Rounding.{round}
 use Rattle.integers.proofs.Absolute.{within_fits}
 use Rattle.integers.proofs.Parts.{of_lt}
-use Rattle.integers.proofs.Rounding.{round_within}
+use Rattle.integers.proofs.Rounded.{round_within}
 
 pub quotient_fits : (a d : ℤ) → pos 0 <ℤ d → nat_abs a ≤ 2 ^ 27 * nat_abs d → SFits w32 (round a (nat_abs d))
 quotient_fits a (negsuc n) above size = absurd above.lt

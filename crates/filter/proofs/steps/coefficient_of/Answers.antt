@@ -7,7 +7,8 @@ use Rattle.bspline.specs.Recursions.{coefficient}
 use Rattle.integers.specs.Rounding.{round}
 use Rattle.integers.proofs.Laws.{*ℤ_assoc}
 use Rattle.integers.proofs.Linear.{reify, read, show}
-use Rattle.integers.proofs.Rounding.{round_near, round_double}
+use Rattle.integers.proofs.Rounding.{round_near}
+use Rattle.integers.proofs.Rounded.{round_double}
 use Rattle.filter.proofs.steps.coefficient_of.Goals as goal
 
 module _ (b : ℤ) (h : nat_abs b ≤ 243 * 2 ^ 24) where
