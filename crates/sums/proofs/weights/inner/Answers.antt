@@ -5,7 +5,7 @@ use Rattle.integers.proofs.Words.{Word, given, literal, plus, minus, times}
 use Rattle.bspline.specs.Values.{cube}
 use Rattle.sums.proofs.weights.inner.Goals as goal
 
--- the terms from the numbers, the cube of the first and that of the second
+-- the terms from the numbers and the cube of the first
 module _ (j m a : ℤ) (few : Within 16 j) (short : Within 16 m) (small : Within (16 ^ 3) a) where
   abbrev first : Word w32
   first = times (literal 3 (lit< tt)) (given a (16 ^ 3) small (lit< tt)) (lit< tt)
@@ -19,8 +19,13 @@ module _ (j m a : ℤ) (few : Within 16 j) (short : Within 16 m) (small : Within
   abbrev two : Word w32
   two = minus first second (lit< tt)
 
-  abbrev three : (b : ℤ) → Within (16 ^ 3) b → Word w32
-  three b light = plus two (times (literal 4 (lit< tt)) (given b (16 ^ 3) light (lit< tt)) (lit< tt)) (lit< tt)
+-- and their sum with that of the second
+module _ (j m a b : ℤ) (few : Within 16 j) (short : Within 16 m) (small : Within (16 ^ 3) a) (light : Within (16 ^ 3) b) where
+  abbrev three : Word w32
+  three = plus (two j m a few short small) (times (literal 4 (lit< tt)) (given b (16 ^ 3) light (lit< tt)) (lit< tt)) (lit< tt)
+
+  weight_is : a ≡ cube j → b ≡ cube m → three.operand ≡ pos 3 *ℤ cube j -ℤ pos 6 *ℤ (j *ℤ j) *ℤ m +ℤ pos 4 *ℤ cube m
+  weight_is e f = three.means ∙ ap₂ (λ a b. pos 3 *ℤ a -ℤ pos 6 *ℤ (j *ℤ j) *ℤ m +ℤ pos 4 *ℤ b) e f
 
 pub overflow_mul-result-4 : goal.overflow_mul-result-4
 overflow_mul-result-4 c = (second c.args.j c.args.m c.cube.result c.requires.0 c.requires.1 c.cube.ensures.1).fits
@@ -30,12 +35,9 @@ overflow_sub-result c = (two c.args.j c.args.m c.cube.result c.requires.0 c.requ
 
 pub overflow_add-result : goal.overflow_add-result
 overflow_add-result c =
-    (three c.args.j c.args.m c.cube.result c.requires.0 c.requires.1 c.cube.ensures.1 c.cube-2.result c.cube-2.ensures.1).fits
+    (three c.args.j c.args.m c.cube.result c.cube-2.result c.requires.0 c.requires.1 c.cube.ensures.1 c.cube-2.ensures.1).fits
 
 pub returns : goal.returns
 returns c =
-    let a = c.args in
-    let cube_j : c.cube.result ≡ cube a.j = rw (to_z-of_z c.ranges.j) at c.cube.ensures.0 in
-    let cube_m : c.cube-2.result ≡ cube a.m = rw (to_z-of_z c.ranges.m) at c.cube-2.ensures.0 in
-    (three a.j a.m c.cube.result c.requires.0 c.requires.1 c.cube.ensures.1 c.cube-2.result c.cube-2.ensures.1).means
-    ∙ ap₂ (λ a b. pos 3 *ℤ a -ℤ pos 6 *ℤ (c.args.j *ℤ c.args.j) *ℤ c.args.m +ℤ pos 4 *ℤ b) cube_j cube_m
+    weight_is c.args.j c.args.m c.cube.result c.cube-2.result c.requires.0 c.requires.1 c.cube.ensures.1 c.cube-2.ensures.1
+    (rw (to_z-of_z c.ranges.j) at c.cube.ensures.0) (rw (to_z-of_z c.ranges.m) at c.cube-2.ensures.0)

@@ -51,8 +51,8 @@ round_narrow-requires c =
       picture_size a.m a.x.j a.y.j c.weights_at.ensures c.weights_at-2.ensures (omega (arith, p.along.numerator)) (omega (arith, p.down.numerator))
           c.row_sums-sums.ensures.small,
     ) in
-    rw (to_z-of_z sum_fits, to_z-of_z divisor_fits)
-    (picture_divisible a.m p.factor.some p.factor.small c.dot-sum.result c.picture_divisor.ensures small)
+    let held = picture_divisible a.m p.factor.some p.factor.small c.dot-sum.result c.picture_divisor.ensures small in
+    rw (to_z-of_z divisor_fits) (held.0, held.1, omega (arith, ap nat_abs (to_z-of_z sum_fits), held.2))
 
 pub returns : goal.returns
 unfolding value_in_picture

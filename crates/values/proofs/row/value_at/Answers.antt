@@ -23,9 +23,10 @@ round_narrow-requires c =
     let sum_fits : SFits w64 c.dot-sum.result = sfits_of c.dot-sum.type_inv in
     let divisor_fits : SFits w64 c.row_divisor.result = sfits_of c.row_divisor.type_inv in
     let sum : c.dot-sum.result ≡ dot (weights a.m a.j) four = c.dot-sum.ensures ∙ ap (λ w. dot w four) c.weights_at.ensures in
-    rw (to_z-of_z sum_fits, to_z-of_z divisor_fits, sum)
-    (row_divisible a.m c.requires.factor.some c.requires.factor.small (dot (weights a.m a.j) four) c.row_divisor.ensures
-    (weighted_within a.m a.j (2 ^ 31) four (omega arith) c.support.ensures.1))
+    let held =
+    row_divisible a.m c.requires.factor.some c.requires.factor.small (dot (weights a.m a.j) four) c.row_divisor.ensures
+    (weighted_within a.m a.j (2 ^ 31) four (omega arith) c.support.ensures.1) in
+    rw (to_z-of_z divisor_fits) (held.0, held.1, omega (arith, ap nat_abs (to_z-of_z sum_fits ∙ sum), held.2))
 
 pub returns : goal.returns
 returns c =
