@@ -4,7 +4,7 @@
 
 ghost use Rattle.std.specs.Prelude.{◌≡◌};
 ghost use Rattle.delay.specs.Answers.{number, measured};
-ghost use Rattle.delay.specs.Outcomes.{exact_factor, no_delay, unmeasured as Outcomes·unmeasured, find_delay, Measured};
+ghost use Rattle.delay.specs.Outcomes.{exact_factor, no_delay, unmeasured, find_delay, Measured};
 
 use onset::Detection;
 
@@ -65,7 +65,7 @@ fn no_delay(m: usize) -> Refusal
 // Why there is no delay to a row, behind a first row that is not refused. The row is only judged: every value reaches the least threshold, so that the
 // search ends with the first eight values.
 fn unmeasured(second: &[i32], m: usize) -> Refusal
-    ensures { number result ≡ Outcomes·unmeasured second.now m }
+    ensures { number result ≡ unmeasured second.now m }
 {
     match onset::find(second, m, -2147483648) {
         Detection::Onset(_, _) => no_delay(m),
