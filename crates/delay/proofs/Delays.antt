@@ -34,7 +34,7 @@ one_first t values p q f g = go (dec_lt p q) (dec_lt q p)
 
 -- it has the delay +0
 pub itself : (values : List ℤ) (m : ℕ) (t : ℤ) (d h g : Float) → DelayMeasured values values m t d h g → d ≡ fin false 0 (pos 0)
-itself values m t d h g measured = measured.delay_zero (one_first t values measured.first_place measured.second_place measured.first_run_lem measured.second_run)
+itself values m t d h g measured = measured.delay_zero (one_first t values measured.first_place measured.second_place measured.first_run measured.second_run)
 
 -- ---- the rows exchanged
 -- behind a test that is the same for both

@@ -3,6 +3,7 @@ pub mod Differences
 pub mod Opposites
 pub mod ExactDifferences
 pub mod Searches
+pub mod Factors
 pub mod Measured
 pub mod Delays
 pub mod Worked

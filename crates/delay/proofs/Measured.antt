@@ -1,12 +1,11 @@
 -- What a delay means: both searches have found an exact position, and the difference of the two is exact. Assumes nothing.
-use mathlib.Core.Bool.{Bool, true, false, ◌||◌}
+use mathlib.Core.Bool.{true}
 use mathlib.Core.List.{List}
-use mathlib.Core.Path.{◌≡◌, refl}
+use mathlib.Core.Path.{◌≡◌}
 use Prim.Native.Nat.{ℕ, ◌*◌, ◌^◌, ◌≤◌, ◌<◌}
 use native.Mathlib.Nat.{mul-le-mul, lt_of_le_of_lt}
 use native.Mathlib.Omega.{arith}
-use borrow.Author.Tests.{eqb-true}
-use lib.Dec.{eqb, lit<, lit≤}
+use lib.Dec.{lit<}
 use lib.IntN.{ℤ}
 use lib.Ieee.{Float, binary64, sub}
 use lib.ListN.{length}
@@ -15,34 +14,7 @@ use Rattle.onset.specs.Outcomes.{OnsetMeasured}
 use Rattle.onset.specs.Runs.{Run}
 use Rattle.delay.specs.Outcomes.{exact_factor, DelayMeasured}
 use Rattle.delay.proofs.ExactDifferences.{sub_exact, sub_zero}
-
--- ---- the five factors
--- each is a power of two and divides 16
-record Dyadic (m : ℕ) : Type 0 where
-  exponent : ℕ
-  power : m ≡ 2 ^ exponent
-  parts : ℕ
-  sixteen : 16 ≡ parts * m
-  few : parts ≤ 16
-  positive : 0 < m
-
-dyadic : (m n j k : ℕ) → n ≡ 2 ^ j → 16 ≡ k * n → k ≤ 16 → 0 < n → eqb m n ≡ true → Dyadic m
-dyadic m n j k p s f h e =
-    rw (eqb-true m n e) (record { exponent = j; power = p; parts = k; sixteen = s; few = f; positive = h })
-
-either : {A : Type 0} (a b : Bool) → (a ≡ true → A) → (b ≡ true → A) → a || b ≡ true → A
-either true b left right h = left refl
-either false b left right h = right h
-
-factor_dyadic : (m : ℕ) → exact_factor m ≡ true → Dyadic m
-factor_dyadic m =
-    either (eqb m 1 || eqb m 2 || eqb m 4 || eqb m 8) (eqb m 16)
-    (either (eqb m 1 || eqb m 2 || eqb m 4) (eqb m 8)
-    (either (eqb m 1 || eqb m 2) (eqb m 4)
-    (either (eqb m 1) (eqb m 2) (dyadic m 1 0 16 refl refl (lit≤ tt) (lit< tt)) (dyadic m 2 1 8 refl refl (lit≤ tt) (lit< tt)))
-    (dyadic m 4 2 4 refl refl (lit≤ tt) (lit< tt)))
-    (dyadic m 8 3 2 refl refl (lit≤ tt) (lit< tt)))
-    (dyadic m 16 4 1 refl refl (lit≤ tt) (lit< tt))
+use Rattle.delay.proofs.Factors.{factor_dyadic}
 
 -- ---- two onsets in rows that are not too long
 few_sixteenths : (values : List ℤ) (t : ℤ) (p k : ℕ) → Run t values p → length values ≤ most_values → k ≤ 16 → p * k < 2 ^ 53
@@ -61,7 +33,7 @@ delay_measured first second m t x h y g e short short' one two =
       taken = e;
       first_place = p;
       second_place = q;
-      first_run_lem = one.first;
+      first_run = one.first;
       second_run = two.first;
       delay_exact =
           sub_exact x y p q m d.positive v w d.parts d.sixteen

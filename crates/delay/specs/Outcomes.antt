@@ -45,7 +45,7 @@ pub record DelayMeasured (first second : List ℤ) (m : ℕ) (t : ℤ) (d h g : 
   pub taken : exact_factor m ≡ true
   pub first_place : ℕ
   pub second_place : ℕ
-  pub first_run_lem : FirstRun t first first_place
+  pub first_run : FirstRun t first first_place
   pub second_run : FirstRun t second second_place
   pub delay_exact : Exactly d (pos first_place -ℤ pos second_place) m
   pub delay_zero : first_place ≡ second_place → d ≡ fin false 0 (pos 0)
