@@ -1,2 +1,3 @@
--- The law from which the functions of `zoomtext` are proved.
+-- The laws from which the functions of `zoomtext` are proved.
 pub mod SamplesOutcome
+pub mod NumbersOutcome

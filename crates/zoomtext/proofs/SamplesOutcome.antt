@@ -2,16 +2,17 @@
 -- refuse the length of the row, and where it does not, the zoom can only refuse the factor or the value buffer. Assumes nothing.
 use mathlib.Core.Bool.{Bool, true, false}
 use mathlib.Core.List.{List}
-use mathlib.Core.Path.{◌≡◌, refl}
+use mathlib.Core.Path.{◌≡◌, refl, sym, ap, subst}
 use Prim.Native.Nat.{ℕ, ◌≤◌}
+use native.Mathlib.Nat.{le_refl}
 use native.Mathlib.Omega.{arith}
 use borrow.Author.Tests.{ltb-false, le-ltb}
 use lib.Dec.{eqb, ltb}
-use lib.IntN.{ℤ}
-use lib.ListN.{length, take, drop}
+use lib.IntN.{ℤ, pos}
+use lib.ListN.{length, take, drop, replicate, length-take, length-replicate}
 use lib.Seq.{take_at}
 use Rattle.bspline.specs.Limits.{longest_row, greatest_factor, work_words}
-use Rattle.bspline.specs.Outcomes.{row_transform, row_zoom}
+use Rattle.bspline.specs.Outcomes.{Transformed, row_transform, row_zoom}
 use Rattle.bspline.specs.Refusals.{Answer, count, value, refusal, outside}
 use Rattle.bspline.specs.Transforms.{row_coefficients}
 use Rattle.bspline.specs.Values.{zoom_count}
@@ -52,6 +53,20 @@ module _ (m : ℕ) (s buffer c work : List ℤ) (room : longest_row ≤ length c
 
   pub told : Told m s buffer (row_transform s c work).answer (row_transform s c work).coefficients
   told = told_by (eqb (length s) 0) (ltb longest_row (length s)) refl refl
+
+-- and so what a call tells that has just that room, all of it 0
+pub told_room : (m : ℕ) (s buffer : List ℤ) {a : Answer} {c work : List ℤ} →
+    record { answer = a; coefficients = c; work = work } ≡ row_transform s (replicate longest_row (pos 0)) (replicate (work_words longest_row) (pos 0)) →
+    Told m s buffer a c
+told_room m s buffer e =
+    let coefficients = replicate longest_row (pos 0) in
+    let words = replicate (work_words longest_row) (pos 0) in
+    subst (λ (o : Transformed). Told m s buffer o.answer o.coefficients) (sym e)
+    (told m s buffer coefficients words (rw length-replicate (le_refl _)) (rw length-replicate (le_refl _)))
+
+-- the coefficients stand within their buffer
+pub begin_inside : {s : List ℤ} {n : ℕ} {c : List ℤ} → Coefficients s n c → n ≤ length c
+begin_inside {s} {n} {c} t = omega (arith, length-take n c, ap length t.begin, row_length s, t.count)
 
 module _ (m : ℕ) (s buffer c : List ℤ) (n : ℕ) (t : Coefficients s n c) where
   listed_by : (a b : Bool) → outside greatest_factor m ≡ a → ltb (length buffer) (zoom_count m (length s)) ≡ b →

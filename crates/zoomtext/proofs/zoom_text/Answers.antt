@@ -1,0 +1,6 @@
+use Rattle.zoomtext.specs.Kept.{kept}
+use Rattle.zoomtext.proofs.zoom_text.Goals as goal
+
+pub returns-in-Illegal : goal.returns-in-Illegal
+unfolding kept
+returns-in-Illegal c = rw c.in-Illegal.ensures
