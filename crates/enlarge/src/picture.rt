@@ -11,6 +11,7 @@ use answers::{Refusal, Shape, Written};
 
 // Enlarging: the picture values at 0, 1/m, 2/m and so on along both sides, row after row, from the buffer's start. The count is computed after the
 // tests of what it is made of.
+#[tactic(auto, unfolding(bspline::specs::Outcomes::picture_enlargement))]
 pub fn enlarge(coefficients: &[i32], shape: Shape, m: usize, values: &mut [i32]) -> Written
     ensures { record { answer = written result; values = values.new }
         ≡ picture_enlargement m (described shape) coefficients.now values.old }

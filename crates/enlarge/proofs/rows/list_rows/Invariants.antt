@@ -1,0 +1,13 @@
+use Rattle.std.proofs.Common.{◌-◌, ◌*◌, ◌≤◌}
+use Rattle.bspline.specs.PictureLayout.{sides}
+use Rattle.bspline.specs.Values.{enlarged_values}
+use Rattle.bspline.proofs.FilledLists.{Filled}
+use Rattle.enlarge.proofs.rows.list_rows.Given as goal
+
+-- the values of the rows before y are listed
+abbrev pub invariant-loop-y : goal.invariant-loop-y
+invariant-loop-y l = record { within : l.y ≤ l.down; filled : Filled (enlarged_values l.m (sides l.width l.height) l.c) l.values (l.y * l.across) }
+
+-- how many rows are left
+abbrev pub decreases-loop-y : goal.decreases-loop-y
+decreases-loop-y l = l.down - l.y
