@@ -9,12 +9,15 @@ WORD = re.compile(r"\[\]|[^\s(){}\[\];,⌜⌝]+")
 IMPORT = re.compile(r"\s*(?:pub )?(?:ghost )?use (\S+?)\.\{(.*)\};?\s*$")
 ALIAS = re.compile(r"\s*use (\S+) as (\S+)\s*$")
 CODE_IMPORT = re.compile(r"\s*(?:pub )?use ([\w:]+)::(\w+)(?: as (\w+))?;\s*$")
+GROUPED_IMPORT = re.compile(r"^(\s*(?:pub )?use [\w:]+)::\{([^{}]*)\};", re.M)
 ANY_IMPORT = re.compile(r"\s*(?:\w+ )*use\b")
 CODE_DECLARATION = re.compile(r"\s*(?:pub(?:\(crate\))? )?(?:enum|struct|const) (\w+)\b")
 SECTION = re.compile(r"module _\b")
 NAMED = re.compile(r"(?:abbrev |unfoldable )?(?:pub )?(?:record|data) (\S+)|(?:pub )?ruleset (\S+) =|(?:abbrev |unfoldable )?(?:pub )?([^\s:=(){}]+)(?: \{[^}]*\})* :(?: |$)")
-MODULE = re.compile(r"Rattle·(\w+?)(?:·(?:specs|proofs))?\.(specs|proofs)\.(.*)$")
-DECLARED = re.compile(r"declared\.(?:(.*)\.)?([^.]+?)(?:\.the-variants)?$")
+CRATES = sorted(os.listdir(os.path.join(ROOT, "crates")))
+MODULE = re.compile(rf"Rattle\.({'|'.join(CRATES)})\.(specs|proofs)\.(.*)$")
+DECLARED = re.compile(r"declared\.(?:(.*)\.)?([^.]+?)(?:\.TheVariants)?$")
+HOLE = "◌"  # where an operator has an argument
 
 
 def words(lines):
@@ -28,8 +31,13 @@ def words(lines):
 
 def stands(name, found):
     """Whether a name is among the words: itself, or as an operator with something in its places."""
-    parts = [part for part in name.split("_") if part]
-    return name in found or ("_" in name and bool(parts) and all(part in found for part in parts))
+    parts = [part for part in name.split(HOLE) if part]
+    return name in found or (HOLE in name and bool(parts) and all(part in found for part in parts))
+
+
+def one_by_one(text):
+    """Rattle code in which every import names one thing."""
+    return GROUPED_IMPORT.sub(lambda found: "\n".join(f"{found.group(1)}::{name.strip()};" for name in found.group(2).split(",") if name.strip()), text)
 
 
 class Source:
@@ -41,7 +49,7 @@ class Source:
         self.path = path
         self.rattle = path.endswith(".rt")
         with open(os.path.join(ROOT, "crates", crate, path), encoding="utf-8") as file:
-            self.text = file.read()
+            self.text = one_by_one(file.read()) if self.rattle else file.read()
         self.imports = {}
         self.aliases = {}
         self.code_imports = {}
@@ -124,9 +132,10 @@ class Sources:
 
     def __init__(self):
         self.files = {}
-        for crate in sorted(os.listdir(os.path.join(ROOT, "crates"))):
+        for crate in CRATES:
             top = os.path.join(ROOT, "crates", crate)
-            for folder, _, names in os.walk(top):
+            for folder, inner, names in os.walk(top):
+                inner[:] = [name for name in inner if name != "out"]
                 for name in sorted(names):
                     if name.endswith((".rt", ".antt")):
                         path = os.path.relpath(os.path.join(folder, name), top)
@@ -140,10 +149,10 @@ class Sources:
         if word in source.constructors:
             found.append(((source.crate, source.path), source.constructors[word]))
         for name in source.declarations:
-            if "_" in name and stands(name, {word}):
+            if HOLE in name and stands(name, {word}):
                 found.append(((source.crate, source.path), name))
         for name, (module, original) in source.imports.items():
-            if name == word or ("_" in name and word in name.split("_")):
+            if name == word or (HOLE in name and word in name.split(HOLE)):
                 found += self.declared(module, original)
         head, _, rest = word.partition(".")
         if rest and head in source.aliases:
