@@ -1,7 +1,6 @@
 -- The values of all rows are one row after the other, and those of row y stand behind those of the rows before it.
 use Rattle.std.proofs.Common.{◌≡◌, sym, ap, ◌∙◌, ℕ, ◌+◌, ◌*◌, ◌≤◌, ◌<◌, List, length, ℤ, arith}
-use mathlib.Core.Path.{ap₂}
-use native.Mathlib.Nat.{zero-mul, one-mul, add-mul, suc-mul, mul_comm, mul-le-mul_right}
+use native.Mathlib.Nat.{zero-mul, one-mul, add-mul, mul_comm, mul-le-mul}
 use borrow.Rule.Slice.PartMut.{mid_len}
 use Rattle.bspline.specs.Lists.{tabulate, at}
 use Rattle.bspline.specs.PictureLayout.{Shape, sides}
@@ -11,25 +10,27 @@ use Rattle.bspline.proofs.FilledLists.{Filled, filled_none, filled_table}
 use Rattle.enlarge.proofs.rows.list_rows.Goals as goal
 
 -- row y ends within the values
-inside : (m : ℕ) (d : Shape) (c values : List ℤ) (y across down i : ℕ) → Filled (enlarged_values m d c) values i → across ≡ zoom_count m d.width →
-    down ≡ zoom_count m d.height → y < down → y * across + across ≤ length values
+inside : (m : ℕ) (d : Shape) (c values : List ℤ) (y across down i : ℕ) → Filled (enlarged_values m d c) values i → across ≤ zoom_count m d.width →
+    down ≤ zoom_count m d.height → y < down → y * across + across ≤ length values
 inside m d c values y across down i filled a b h =
-    let long : length values ≡ down * across =
-    filled.long ∙ enlarged_length m d c ∙ mul_comm (zoom_count m d.width) (zoom_count m d.height) ∙ ap₂ ◌*◌ (sym b) (sym a) in
-    omega (arith, suc-mul y across, mul-le-mul_right across h)
+    let long : length values ≡ zoom_count m d.width * zoom_count m d.height = filled.long ∙ enlarged_length m d c in
+    let rows : (y + 1) * across ≤ zoom_count m d.height * zoom_count m d.width = mul-le-mul (omega arith) a in
+    omega (arith, add-mul y 1 across, mul_comm (zoom_count m d.width) (zoom_count m d.height))
 
 pub loop-y-init : goal.loop-y-init
 loop-y-init c =
     let a = c.args in
     record {
       within = omega arith;
-      filled = rw (zero-mul c.zoom_count-across.result) (filled_none _ _ (c.requires.1 ∙ sym (enlarged_length a.m (sides a.width a.height) a.c.now)));
+      filled = rw zero-mul (filled_none _ _ (c.requires.1 ∙ sym (enlarged_length a.m (sides a.width a.height) a.c.now)));
     }
 
 pub slice_bounds-list_row_at-end : goal.slice_bounds-list_row_at-end
 slice_bounds-list_row_at-end c =
     let a = c.args in
-    inside a.m (sides a.width a.height) a.c.now c.loop-y.values c.loop-y.y _ _ _ c.loop-y.invariant.filled c.zoom_count-across.ensures c.zoom_count-down.ensures c.loop-y-test.true
+    let each = c.zoom_count-across.result in
+    inside a.m (sides a.width a.height) a.c.now c.loop-y.values c.loop-y.y each c.zoom_count-down.result _ c.loop-y.invariant.filled (omega arith) (omega arith)
+    c.loop-y-test.true
 
 pub loop-y-preserved : goal.loop-y-preserved
 loop-y-preserved c =
@@ -38,12 +39,12 @@ loop-y-preserved c =
     let all = enlarged_values a.m d a.c.now in
     let y = c.loop-y.y in
     let across = c.zoom_count-across.result in
-    let wide = c.zoom_count-across.ensures in
-    let room = inside a.m d a.c.now c.loop-y.values y _ _ _ c.loop-y.invariant.filled wide c.zoom_count-down.ensures c.loop-y-test.true in
+    let wide : across ≡ zoom_count a.m a.width = omega arith in
+    let room = inside a.m d a.c.now c.loop-y.values y across c.zoom_count-down.result _ c.loop-y.invariant.filled (omega arith) (omega arith) c.loop-y-test.true in
     let value : ℕ → ℤ = λ x. value_in_picture a.m d a.c.now (zoom_position a.m x) (zoom_position a.m y) in
     let row : (x : ℕ) → x < across → value x ≡ at all (y * across + x) =
     λ x b.
-    sym (enlarged_at a.m d a.c.now x y (omega (arith, wide)) (omega (arith, c.loop-y-test.true, c.zoom_count-down.ensures)))
+    sym (enlarged_at a.m d a.c.now x y (omega (arith, wide)) (omega arith))
     ∙ ap (λ n. at all (y * n + x)) (sym wide) in
     record {
       within = omega arith;
