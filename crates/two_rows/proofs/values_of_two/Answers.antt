@@ -1,13 +1,6 @@
--- `two_rows::values_of_two` meets its contract. The transforms of a row and of the reversed row answer the same (`row_transform_alike`), since a call keeps
--- the lengths of the buffers; where they answer a count, the values are opposite (`reversed_row_value`). Of rows that differ at one sample, the values are
--- near each other (`row_values_near`). Assumes nothing.
-use mathlib.Core.List.{List}
-use mathlib.Core.Path.{◌≡◌, sym, ap, ◌∙◌}
-use Prim.Native.Nat.{ℕ}
-use native.Mathlib.Omega.{arith}
-use borrow.Author.Rules.{rules}
-use lib.IntN.{ℤ}
-use lib.ListN.{length}
+-- The transforms of a row and of the reversed row answer the same (`row_transform_alike`), since a call keeps the lengths of the buffers; where they
+-- answer a count, the values are opposite (`reversed_row_value`). Of rows that differ at one sample, the values are near each other (`row_values_near`).
+use Rattle.std.proofs.Common.{◌≡◌, sym, ap, ◌∙◌, ℕ, ℤ, List, length, arith}
 use Rattle.bspline.specs.Exact.{RowAccurate}
 use Rattle.bspline.specs.Negation.{negated, opposite}
 use Rattle.bspline.specs.Outcomes.{Transformed, row_transform}
@@ -21,8 +14,7 @@ use Rattle.answers.specs.declared.Written.{Written}
 use Rattle.answers.specs.declared.Written.TheVariants.{Count, Refused}
 use Rattle.round_trip.specs.Asked.{value_after, Asked}
 use Rattle.two_rows.specs.TwoRows.{BothAsked, Opposites, NearValues}
-use Rattle.two_rows.proofs.values_of_two.Statement.{statement}
-use Rattle.two_rows.proofs.values_of_two.Tie as tie
+use Rattle.two_rows.proofs.values_of_two.Goals as goal
 
 -- an answer put in the place of an outcome's
 outcome : (o : Transformed) (a : Answer) → a ≡ o.answer → record { answer = a; coefficients = o.coefficients; work = o.work } ≡ o
@@ -80,25 +72,12 @@ module _ {s t buffer work : List ℤ} {m : ℕ} {p : Position} {a b : Answer} (b
         (sym both.first.answer ∙ h) (sym both.second.answer ∙ h');
   }
 
-value_of_row_requires : tie.Need-value-of-row-requires
-value_of_row_requires c κs = search rules
+pub returns-clause-opposites : goal.returns-clause-opposites
+returns-clause-opposites c =
+    let first = c.value_of_row-value in
+    opposite_answers (both_asked first.ensures c.value_of_row-other.ensures first.auto.coefficients first.auto.work)
 
-value_of_row_requires_2 : tie.Need-value-of-row-requires-2
-value_of_row_requires_2 c κs = search rules
-
-same_length : tie.Need-same-length
-same_length c = search rules
-
-same_length_2 : tie.Need-same-length-2
-same_length_2 c = search rules
-
-returns : tie.Need-returns
-returns c =
-    let second = c.before.before in
-    let first = second.before.before.before.before.before in
-    let kept = first.value-of-row.auto.1.1.1 in
-    let both = both_asked first.value-of-row.ensures second.value-of-row2.ensures kept.0 kept.1.0 in
-    (both, (opposite_answers both, near_answers both))
-
-pub values_of_two_spec : {M : Type 1} → statement M
-values_of_two_spec = tie.close (tie.spec value_of_row_requires value_of_row_requires_2 same_length same_length_2 returns)
+pub returns-clause-near_values : goal.returns-clause-near_values
+returns-clause-near_values c =
+    let first = c.value_of_row-value in
+    near_answers (both_asked first.ensures c.value_of_row-other.ensures first.auto.coefficients first.auto.work)

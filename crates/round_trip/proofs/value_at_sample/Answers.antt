@@ -1,12 +1,5 @@
--- `round_trip::value_at_sample` meets its contract. What the transform answers and leaves gives `row_taken`, and `row_value_returns` gives the
--- answer; a refused transform has no count. Assumes nothing.
-use mathlib.Core.List.{List}
-use mathlib.Core.Path.{◌≡◌, ap, ◌∙◌}
-use Prim.Native.Nat.{ℕ, ◌≤◌, ◌<◌}
-use native.Mathlib.Omega.{arith}
-use borrow.Author.Rules.{rules}
-use lib.IntN.{ℤ, pos, ◌*ℤ◌}
-use lib.ListN.{length}
+-- What the transform answers and leaves gives `row_taken`, and `row_value_returns` gives the answer; a refused transform has no count.
+use Rattle.std.proofs.Common.{◌≡◌, ap, ◌∙◌, ℕ, ◌≤◌, ◌<◌, ℤ, pos, ◌*ℤ◌, List, length, arith}
 use Rattle.bspline.specs.Exact.{RowAccurate}
 use Rattle.bspline.specs.Limits.{greatest_factor}
 use Rattle.bspline.specs.Lists.{at}
@@ -18,8 +11,7 @@ use Rattle.answers.specs.declared.Written.{Written}
 use Rattle.answers.specs.declared.Written.TheVariants.{Count, Refused}
 use Rattle.round_trip.specs.Asked.{value_after, Asked}
 use Rattle.round_trip.specs.Returns.{Returns}
-use Rattle.round_trip.proofs.value_at_sample.Statement.{statement}
-use Rattle.round_trip.proofs.value_at_sample.Tie as tie
+use Rattle.round_trip.proofs.value_at_sample.Goals as goal
 
 -- the answer at a sample is 256 times it
 module _ {s buffer work : List ℤ} {k m : ℕ} {a : Answer} (asked : Asked s buffer work m (record { k = k; j = 0 }) a) where
@@ -40,17 +32,5 @@ module _ {s buffer work : List ℤ} {k m : ℕ} {a : Answer} (asked : Asked s bu
     returns = λ f some small inside. asked.answer ∙ returned asked.transformed asked.outcome asked.accurate f some small inside;
   }
 
-value_of_row_requires : tie.Need-value-of-row-requires
-value_of_row_requires c κs = search rules
-
-same_length : tie.Need-same-length
-same_length c = search rules
-
-same_length_2 : tie.Need-same-length-2
-same_length_2 c = search rules
-
-returns : tie.Need-returns
-returns c = sample_returned c.before.before.value-of-row.ensures
-
-pub value_at_sample_spec : {M : Type 1} → statement M
-value_at_sample_spec = tie.close (tie.spec value_of_row_requires same_length same_length_2 returns)
+pub returns : goal.returns
+returns c = sample_returned c.value_of_row.ensures
