@@ -4,8 +4,8 @@
 
 ghost use Rattle.std.specs.Prelude.{◌≤◌, length, IfOk};
 
+use rowtext::input::{judge_text, text_room, value_room, zoom_text};
 use rowtext::output::{more_parts, print_part};
-use rowtext::zoom::{judge_text, text_room, value_room, zoom_text};
 use rowtext::{LONGEST_TEXT, Zoomed};
 use std::io;
 use std::io::{Print, Read};
