@@ -18,6 +18,7 @@ CRATES = sorted(os.listdir(os.path.join(ROOT, "crates")))
 MODULE = re.compile(rf"Rattle\.({'|'.join(CRATES)})\.(specs|proofs)\.(.*)$")
 DECLARED = re.compile(r"declared\.(?:(.*)\.)?([^.]+?)(?:\.TheVariants)?$")
 HOLE = "◌"  # where an operator has an argument
+CITED = re.compile(r"\b(\w+)::(specs|proofs)((?:::\w+)*)::(\w+)\b")  # a lemma or a definition in an attribute of Rattle code
 
 
 def words(lines):
@@ -58,6 +59,8 @@ class Source:
         for line in self.text.split("\n"):
             self.body.append(self.without_import(line.split("//")[0] if self.rattle else re.sub(r"(^|\s)--.*$", "", line)))
         self.words = words(self.body)
+        if self.rattle:
+            self.attributes()
         self.declarations = {} if self.rattle else self.blocks()
         self.code_declarations = [found.group(1) for found in map(CODE_DECLARATION.match, self.body) if found] if self.rattle else []
         self.constructors = {word: name for name, lines in self.declarations.items() for word in constructors(lines)}
@@ -81,6 +84,13 @@ class Source:
         elif ANY_IMPORT.match(line):
             self.unread_imports.append(line.strip())
         return line
+
+    def attributes(self):
+        """What the attributes of Rattle code cite counts as imported and used."""
+        for owner, folder, path, name in CITED.findall("\n".join(self.body)):
+            module = ".".join(["Rattle", self.crate if owner == "crate" else owner, folder, *path.split("::")[1:]])
+            self.imports.setdefault(name, (module, name))
+            self.words.add(name)
 
     def renamed(self):
         """The names that this file gives to what it imports, where they are not those that it has, each with what it names."""
