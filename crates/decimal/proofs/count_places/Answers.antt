@@ -1,3 +1,4 @@
+-- The first limit above the number tells how many places it has.
 use Rattle.std.proofs.Common.{arith}
 use Rattle.decimal.proofs.Places.{found}
 use Rattle.decimal.proofs.count_places.Goals as goal

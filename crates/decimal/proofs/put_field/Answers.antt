@@ -1,3 +1,4 @@
+-- The digits and the byte behind them have room, and together they are the field.
 use Rattle.std.proofs.Common.{◌+◌, ◌<◌, length, arith}
 use Rattle.decimal.proofs.Fields.{digits_stop, stop_inside, field_put}
 use Rattle.decimal.proofs.put_field.Goals as goal

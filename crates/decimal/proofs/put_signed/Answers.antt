@@ -1,3 +1,4 @@
+-- A number below 0 is a minus and its size, and any other is itself.
 use mir.Facts.{to_z-of_z}
 use Rattle.decimal.proofs.Signs.{natural, size_small, put_negative, negative_room}
 use Rattle.decimal.proofs.put_signed.Goals as goal

@@ -1,3 +1,4 @@
+-- Each pair of digits is moved before those that stand.
 use Rattle.std.proofs.Common.{◌∙◌, arith}
 use Rattle.decimal.proofs.Digits.{moved_pair}
 use Rattle.decimal.proofs.write_digits.Goals as goal

@@ -1,3 +1,4 @@
+-- What the numbers of a text are judged as is what the text is judged as.
 use Rattle.std.proofs.Common.{◌∙◌, rules, arith, sym, get_or}
 use lib.IntN.{pos}
 use mir.Facts.{to_z-of_z}

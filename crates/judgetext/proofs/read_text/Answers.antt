@@ -1,3 +1,4 @@
+-- A text that is too long is not read, and any other is what its lines say.
 use Rattle.judgetext.proofs.TextOutcome.{too_long, of_reading}
 use Rattle.judgetext.proofs.read_text.Goals as goal
 

@@ -1,3 +1,4 @@
+-- The three sums about a place are there, and the values before it are listed.
 use Rattle.std.proofs.Common.{◌≡◌, ℕ, ◌-◌, ◌*◌, ◌^◌, ◌≤◌, ℤ, length, nat_abs}
 use Rattle.bspline.specs.Bounds.{sizes}
 use Rattle.bspline.proofs.FilledLists.{Filled}

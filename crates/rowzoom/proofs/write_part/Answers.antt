@@ -1,5 +1,5 @@
 -- What was printed stands within the block.
-use Rattle.std.proofs.Common.{◌≤◌, length, ap, sym}
+use Rattle.std.proofs.Common.{ap, sym}
 use lib.Seq.{length-take-le}
 use Rattle.printtext.specs.Printing.{Printed}
 use Rattle.rowtext.proofs.WholeOutput.{printed_fits}

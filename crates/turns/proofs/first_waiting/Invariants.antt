@@ -1,3 +1,4 @@
+-- From station to station the search stays the same search.
 use Rattle.std.proofs.Common.{◌≡◌, ◌<◌}
 use Rattle.turns.specs.States.{stations, first_waiting}
 use Rattle.turns.proofs.first_waiting.Given as goal

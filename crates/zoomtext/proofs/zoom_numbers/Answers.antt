@@ -1,3 +1,4 @@
+-- No number, or more than a row may have after the factor, is refused for the text.
 use Rattle.std.proofs.Common.{◌∙◌, arith}
 use Rattle.zoomtext.specs.Kept.{kept}
 use Rattle.zoomtext.proofs.NumbersOutcome.{none_first, too_many}

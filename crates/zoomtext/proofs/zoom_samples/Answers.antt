@@ -1,3 +1,4 @@
+-- The coefficients stand at the start of their buffer, and the values come of them.
 use Rattle.std.proofs.Common.{◌∙◌, sym}
 use lib.Seq.{length-take-le}
 use Rattle.zoomtext.proofs.SamplesOutcome.{Coefficients, told_room, begin_inside, listed_kept}

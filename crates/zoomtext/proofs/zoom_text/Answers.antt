@@ -1,3 +1,4 @@
+-- A text that is not read is refused, and the values are left.
 use Rattle.zoomtext.specs.Kept.{kept}
 use Rattle.zoomtext.proofs.zoom_text.Goals as goal
 

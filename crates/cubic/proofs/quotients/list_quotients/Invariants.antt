@@ -1,3 +1,4 @@
+-- The differences go from numerator to numerator, and the quotients up to there are listed.
 use Rattle.std.proofs.Common.{◌-◌, pos, length, nat_abs}
 use Rattle.integers.specs.Rounding.{round}
 use Rattle.cubic.specs.Cubics.{DifferencesAt, cubic_sum}

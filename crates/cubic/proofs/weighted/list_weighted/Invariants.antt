@@ -1,3 +1,4 @@
+-- The weighted sums up to a numerator are listed.
 use Rattle.std.proofs.Common.{◌-◌, length, nat_abs}
 use Rattle.integers.specs.Rounding.{round}
 use Rattle.bspline.specs.Values.{weights, dot}

@@ -1,3 +1,4 @@
+-- The rows of values before one are listed.
 use Rattle.std.proofs.Common.{◌-◌, ◌*◌, ◌≤◌}
 use Rattle.bspline.specs.PictureLayout.{sides}
 use Rattle.bspline.specs.Values.{enlarged_values}

@@ -1,3 +1,4 @@
+-- The position after the last numerator of a place is the next place.
 use Rattle.std.proofs.Common.{◌≡◌, ◌+◌, arith}
 use Rattle.printtext.proofs.ValueLines.{position_next}
 use Rattle.printtext.proofs.lines.next.Goals as goal

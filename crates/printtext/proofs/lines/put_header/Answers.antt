@@ -1,3 +1,4 @@
+-- The fields of the first line are short enough for the room that is asked.
 use Rattle.std.proofs.Common.{arith}
 use Rattle.printtext.proofs.LineFields.{samples_short, factor_short, values_short, header_put}
 use Rattle.printtext.proofs.lines.put_header.Goals as goal

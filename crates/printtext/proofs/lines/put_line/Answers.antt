@@ -1,3 +1,4 @@
+-- The fields of a line are short enough for the room that is asked.
 use Rattle.std.proofs.Common.{arith}
 use mir.Facts.{to_z-of_z}
 use Rattle.printtext.proofs.LineFields.{samples_short, factor_short, value_short, line_put}

@@ -1,3 +1,4 @@
+-- The lines before one stand in the buffer, and one more line is put behind them.
 use Rattle.std.proofs.Common.{rules, get_or}
 use lib.IntN.{pos}
 use mir.Facts.{to_z-of_z}

@@ -1,3 +1,4 @@
+-- Nothing is printed into a buffer that is too short; else it is the part of a row or of a refusal.
 use Rattle.std.proofs.Common.{refl}
 use Rattle.printtext.proofs.Printing.{short_block, put_held}
 use Rattle.printtext.proofs.parts.print_part.Goals as goal

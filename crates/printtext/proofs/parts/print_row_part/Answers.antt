@@ -1,3 +1,4 @@
+-- Nothing is printed of sizes that no text gives or of a buffer with too few values; of others the part is.
 use Rattle.std.proofs.Common.{true, false, ◌≡◌, sym, ◌∙◌}
 use borrow.Author.Tests.{lt-leb, le-leb}
 use Rattle.judgetext.specs.Answers.{row_sizes}

@@ -1,3 +1,4 @@
+-- A refusal is one line in the first part, and there are no others.
 use Rattle.std.proofs.Common.{arith}
 use Rattle.decimal.proofs.Buffers.{put_none}
 use Rattle.printtext.specs.Output.{refusal_line, part}

@@ -1,3 +1,4 @@
+-- The first part of a row is its header, and each other one its lines.
 use native.Mathlib.Nat.{pos_of_ne-zero}
 use lib.Seq.{length-take-le}
 use Rattle.printtext.specs.Output.{part}

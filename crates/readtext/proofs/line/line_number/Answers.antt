@@ -1,3 +1,4 @@
+-- A line has a number with a minus before it or without, and an empty one has none.
 use Rattle.std.proofs.Common.{◌∙◌}
 use Rattle.readtext.proofs.Lines.{empty, with_minus, without_minus}
 use Rattle.readtext.proofs.line.line_number.Goals as goal

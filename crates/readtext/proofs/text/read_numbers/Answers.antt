@@ -1,3 +1,4 @@
+-- Line after line is read, up to one that is not a number, is not ended or has no room.
 use Rattle.std.proofs.Common.{refl, rules}
 use mir.Facts.{to_z-of_z}
 use mir.Syntax.{w16}

@@ -1,3 +1,4 @@
+-- The values before a place are listed.
 use Rattle.std.proofs.Common.{◌-◌, ◌*◌, ◌≤◌}
 use Rattle.bspline.specs.Values.{zoom_values}
 use Rattle.bspline.proofs.FilledLists.{Filled}
