@@ -1,9 +1,10 @@
 -- Each refusal is the first test that holds, and where none does the part of the buffer that is lent becomes the samples.
-use Rattle.std.proofs.Common.{◌/◌, drop, ◌++◌, sym, ap, ap₂, ◌∙◌}
+use Rattle.std.proofs.Common.{◌/◌, drop, ◌++◌, sym, ap, ap₂, ◌∙◌, arith}
+use Rattle.std.proofs.Math.Seq.{length-take-le}
 use Rattle.wavefile.specs.Outcomes.{clip}
 use Rattle.wavefile.specs.Samples.{samples}
 use Rattle.wavefile.proofs.Clips.{bad_file, other_format, odd-length, short-buffer, no-samples, many-samples, read-clip}
-use Rattle.wav.proofs.Lending.{legal_file, content_lent}
+use Rattle.wav.proofs.Lending.{legal_file, content_lent, lent_lengths}
 use Rattle.wav.proofs.read.Goals as goal
 
 pub returns-in_default : goal.returns-in_default
@@ -37,3 +38,11 @@ returns c =
     (c.fill.ensures ∙ ap samples (content_lent f.ensures))
     ∙ read-clip _ buffer (legal_file f.ensures) (sym c.if-not-plain.ensures) c.if-size-eq1.false c.if-samples-count.false c.if-count-eq0.false
     c.if-count-gt-LONGEST_ROW.false
+
+pub fill-requires : goal.fill-requires
+fill-requires c =
+    let n = c.in-Chunks.size in
+    let buffer = c.args.samples.now in (
+      lent_lengths c.in-Chunks.ensures buffer c.if-size-eq1.false c.if-samples-count.false,
+      omega (arith, length-take-le (n / 2) buffer c.if-samples-count.false, c.if-count-gt-LONGEST_ROW.false),
+    )

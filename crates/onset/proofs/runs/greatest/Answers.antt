@@ -1,11 +1,11 @@
 -- The best value is compared with the greater of each pair.
-use Rattle.std.proofs.Common.{rules, ◌+◌, ◌/◌, length, ap, ap₂, sym, subst, ◌∙◌, arith, ℤ, to_z}
+use Rattle.std.proofs.Common.{rules, ◌+◌, ◌-◌, ◌/◌, length, ap, ap₂, sym, subst, ◌∙◌, arith, ℤ, to_z}
 use mir.Facts.{to_z-of_z}
 use mir.Syntax.{w32}
 use mir.Val.{SFits}
 use Rattle.bspline.specs.Lists.{at}
 use Rattle.onset.specs.Runs.{greater}
-use Rattle.onset.proofs.GreatestValues.{Best, best_more, best_last}
+use Rattle.onset.proofs.GreatestValues.{Best, best_first, best_more, best_last}
 use Rattle.onset.proofs.runs.greatest.Goals as goal
 
 pub loop-i-preserved : goal.loop-i-preserved
@@ -23,3 +23,9 @@ loop-i-preserved c =
 
 pub returns : goal.returns
 returns c = best_last c.loop-i.invariant c.loop-i-test.false (omega arith)
+
+pub loop-i-init : goal.loop-i-init
+loop-i-init c =
+    let values = c.args.values.now in
+    let f : SFits w32 (at values (length values - 1)) = search rules in
+    subst (λ (v : ℤ). Best values (length values / 2) v 0) (sym (to_z-of_z f)) (best_first values (length values / 2) c.requires)

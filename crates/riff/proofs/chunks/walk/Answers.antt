@@ -1,8 +1,8 @@
 -- The invariant is followed past each chunk.
-use Rattle.std.proofs.Common.{sym, ◌∙◌}
+use Rattle.std.proofs.Common.{sym, ◌∙◌, arith}
 use Rattle.wavefile.specs.Bytes.{data_name}
 use Rattle.riff.proofs.Places.{name_at}
-use Rattle.riff.proofs.Walking.{walking_start, walking_end, walking_cut, walking_data, walking_on}
+use Rattle.riff.proofs.Walking.{walking_start, walking_end, walking_cut, walking_data, walking_next, walking_on}
 use Rattle.riff.proofs.chunks.walk.Goals as goal
 
 pub loop-at-init : goal.loop-at-init
@@ -22,3 +22,6 @@ loop-at-preserved c =
 
 pub returns : goal.returns
 returns c = walking_end c.loop-at.invariant c.loop-at-test.false
+
+pub overflow_add-at : goal.overflow_add-at
+overflow_add-at c = omega (arith, walking_next c.loop-at.invariant c.in-Whole.ensures)
