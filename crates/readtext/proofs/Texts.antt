@@ -3,43 +3,17 @@ use mathlib.Core.Bool.{Bool, true, false, cond}
 use mathlib.Core.List.{List, [], ◌∷◌, ◌++◌, append_assoc, append-nil}
 use mathlib.Core.Option.{Option, none, some}
 use mathlib.Core.Path.{◌≡◌, refl, sym, ap, ap₂, ◌∙◌}
-use Prim.Native.Nat.{ℕ, zero, suc, ◌+◌, ◌-◌, ◌≤◌, ◌<◌}
+use Prim.Native.Nat.{ℕ, suc, ◌+◌, ◌-◌, ◌≤◌, ◌<◌}
 use native.Mathlib.Numerals.{add-one}
 use native.Mathlib.Omega.{arith}
-use borrow.Author.Tests.{eq-eqb, ne_eqb}
 use lib.Dec.{eqb}
 use lib.IntN.{ℤ}
 use lib.ListN.{length, take, drop, set, get_or, length-append, length-drop, drop_of_length-le}
 use lib.NonEmpty.{one, ◌∷⁺◌}
 use lib.Seq.{take-nil, drop-drop}
+use Rattle.readtext.specs.Places.{index_of, index_after}
 use Rattle.readtext.specs.Numbers.{line_number, longer, lines, and_then, line_numbers, numbers}
 use Rattle.readtext.specs.Readings.{Holds}
-
--- ---- the first place of a byte
--- one place on if the byte at the front is not it
-abbrev pub index_after : Bool → ℕ → ℕ
-index_after true k = 0
-index_after false k = suc k
-
--- the first place where a list has a, or its length if it has none
-unfoldable pub index_of : ℕ → List ℕ → ℕ
-index_of a [] = 0
-index_of a (b ∷ bs) = index_after (eqb b a) (index_of a bs)
-
--- a place that has a and no place before that has it
-pub found_at : (a : ℕ) (l : List ℕ) (k : ℕ) → k < length l → get_or l k 0 ≡ a → ((j : ℕ) → j < k → get_or l j 0 ≡ a → ⊥) → index_of a l ≡ k
-unfolding index_of
-found_at a [] k h e before = absurd (omega arith)
-found_at a (b ∷ bs) zero h e before = rw (eq-eqb b a e) refl
-found_at a (b ∷ bs) (suc k) h e before =
-    rw (ne_eqb b a (before 0 (omega arith))) (ap suc (found_at a bs k (omega arith) e (λ j less. before (suc j) (omega arith))))
-
--- no place has it
-pub found_nowhere : (a : ℕ) (l : List ℕ) → ((j : ℕ) → j < length l → get_or l j 0 ≡ a → ⊥) → index_of a l ≡ length l
-unfolding index_of
-found_nowhere a [] not_at = refl
-found_nowhere a (b ∷ bs) not_at =
-    rw (ne_eqb b a (not_at 0 (omega arith))) (ap suc (found_nowhere a bs (λ j less. not_at (suc j) (omega arith))))
 
 -- ---- a text without a line feed, and one that goes on after its first
 lines_last : (l : List ℕ) → index_of 10 l ≡ length l → lines l ≡ one l
