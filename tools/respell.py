@@ -13,7 +13,7 @@ import sys
 
 DELIMITED = re.compile(r"[^\s(){}.,;:\"`]+")
 DECLARED = re.compile(
-    r"^(\s*)(?:(?:abbrev|unfoldable|irreducible|opaque|ruleset|record|data|pub)\s+)*([^\s(){}.:,;=\"]+)\s*(?:[({][^:]*[)}]\s*)*:\s"
+    r"^(\s*)(?:(?:abbrev|unfoldable|irreducible|opaque|ruleset|record|data|pub)\s+)*([^\s(){}.:,;=\"]+)\s*(?:[({][^:]*[)}]\s*)*:(?:\s|$)"
 )
 IMPORTED = re.compile(r"use\s+([\w.]+)\.\{([^}]*)\}")
 FIELDS = {"format-chunk": "format_chunk"}  # a field may have the name of a definition of another crate

@@ -56,7 +56,7 @@ pub three_units_from : 8192 * 65535 < 2 ^ 29
 three_units_from = lit< tt
 
 -- ---- the table of docs/REACH.md
-pub places-table :
+pub places_table :
     Row 1 9 5 1 0
     × Row 4 11 7 3 0
     × Row 16 13 9 5 1
@@ -66,4 +66,4 @@ pub places-table :
     × Row 4096 21 17 13 9
     × Row 16384 23 19 15 11
     × Row 65535 25 21 17 13
-places-table = (row refl, row refl, row refl, row refl, row refl, row refl, row refl, row refl, row refl)
+places_table = (row refl, row refl, row refl, row refl, row refl, row refl, row refl, row refl, row refl)
