@@ -75,13 +75,13 @@ module _ (d : Shape) (p c₀ : List ℤ) (good : GoodSides d) (r : RaisedPicture
 
     module _ (c₂ : List ℤ) (columns : LinesFiltered d.width 1 d.width d.height c₁ c₂) where
       -- then they hold the second
-      second-pass : (x y : ℕ) → x < d.width → y < d.height → pixel (packed d) c₂ x y ≡ second_pass d p x y
+      second_pass_lem : (x y : ℕ) → x < d.width → y < d.height → pixel (packed d) c₂ x y ≡ second_pass d p x y
       unfolding second_pass
-      second-pass x y h g =
+      second_pass_lem x y h g =
           ap (at c₂) (sym (column_place d x y))
           ∙ line_holds columns good.high _ x y h g (λ k l. ap (λ (t : ℤ). pos 16 *ℤ t) (ap (at c₁) (column_place d x k) ∙ first_pass_lem x k h l))
 
       -- which is the definition, place by place
-      pub picture-filtered : c₂ ≡ picture_coefficients d p
+      pub picture_filtered : c₂ ≡ picture_coefficients d p
       unfolding picture_coefficients
-      picture-filtered = raster_is d (second_pass d p) c₂ (columns.long ∙ rows.long ∙ raised_length) second-pass
+      picture_filtered = raster_is d (second_pass d p) c₂ (columns.long ∙ rows.long ∙ raised_length) second_pass_lem

@@ -44,24 +44,24 @@ module _ (bytes : List ℕ) (buffer : List ℤ) where
     other_format e = rw (outcome, e)
 
     module _ (p : plain f ≡ true) where
-      pub odd-length : n % 2 ≡ 1 → refused 13 ≡ wav_read bytes buffer
-      odd-length e = rw (outcome, p, g.count, eq-eqb (n % 2) 1 e)
+      pub odd_length : n % 2 ≡ 1 → refused 13 ≡ wav_read bytes buffer
+      odd_length e = rw (outcome, p, g.count, eq-eqb (n % 2) 1 e)
 
       module _ (even : n % 2 ≡ 1 → ⊥) where
-        pub short-buffer : length buffer < n / 2 → refused 13 ≡ wav_read bytes buffer
-        short-buffer h = rw (outcome, p, g.count, ne_eqb (n % 2) 1 even, lt-ltb (length buffer) (n / 2) h)
+        pub short_buffer : length buffer < n / 2 → refused 13 ≡ wav_read bytes buffer
+        short_buffer h = rw (outcome, p, g.count, ne_eqb (n % 2) 1 even, lt-ltb (length buffer) (n / 2) h)
 
         module _ (fits : n / 2 ≤ length buffer) where
-          pub no-samples : n / 2 ≡ 0 → refused 1 ≡ wav_read bytes buffer
-          no-samples e = rw (outcome, p, g.count, ne_eqb (n % 2) 1 even, le-ltb (length buffer) (n / 2) fits, eq-eqb (n / 2) 0 e)
+          pub no_samples : n / 2 ≡ 0 → refused 1 ≡ wav_read bytes buffer
+          no_samples e = rw (outcome, p, g.count, ne_eqb (n % 2) 1 even, le-ltb (length buffer) (n / 2) fits, eq-eqb (n / 2) 0 e)
 
           module _ (some : n / 2 ≡ 0 → ⊥) where
-            pub many-samples : longest_row < n / 2 → refused 2 ≡ wav_read bytes buffer
-            many-samples h =
+            pub many_samples : longest_row < n / 2 → refused 2 ≡ wav_read bytes buffer
+            many_samples h =
                 rw (outcome, p, g.count, ne_eqb (n % 2) 1 even, le-ltb (length buffer) (n / 2) fits, ne_eqb (n / 2) 0 some, lt-ltb longest_row (n / 2) h)
 
-            pub read-clip : n / 2 ≤ longest_row → record { answer = clip (n / 2) (rate f); samples = samples d ++ drop (n / 2) buffer } ≡ wav_read bytes buffer
-            read-clip h =
+            pub read_clip : n / 2 ≤ longest_row → record { answer = clip (n / 2) (rate f); samples = samples d ++ drop (n / 2) buffer } ≡ wav_read bytes buffer
+            read_clip h =
                 let half : length (samples d) ≡ n / 2 = samples_length (n / 2) d (g.count ∙ omega (arith, even)) in
                 rw
                 (outcome, p, g.count, ne_eqb (n % 2) 1 even, le-ltb (length buffer) (n / 2) fits, ne_eqb (n / 2) 0 some, le-ltb longest_row (n / 2) h, half)

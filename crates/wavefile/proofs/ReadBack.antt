@@ -18,7 +18,7 @@ use Rattle.wavefile.specs.Chunks.{headed, found, format_of, content_of}
 use Rattle.wavefile.specs.Samples.{signed, samples}
 use Rattle.wavefile.specs.Outcomes.{clip, refusal, wav_read}
 use Rattle.wavefile.specs.Writing.{Writable, chunk_bytes, file_of, plain_format, Sample, unsigned, sample_bytes, format_chunk, data_chunk, written}
-use Rattle.wavefile.proofs.Clips.{Legal, short-buffer, many-samples, read-clip}
+use Rattle.wavefile.proofs.Clips.{Legal, short_buffer, many_samples, read_clip}
 use Rattle.wavefile.proofs.Outcomes.{file_headed, file_found}
 use Rattle.wavefile.proofs.WrittenChunks.{little_of_bytes, name_written, body_written, length_written, walk_past, walk_to}
 
@@ -104,16 +104,16 @@ pub read_back : (r : ℕ) (s buffer : List ℤ) → r < 2 ^ 32 → Forall Sample
 read_back r s buffer small-rate fits some-samples few room =
     let half : 2 * length s / 2 ≡ length s = omega arith in
     sym
-    (read-clip (written r s) buffer (written_legal r s (omega arith)) refl (λ e. omega arith) (omega arith) (λ e. omega arith) (omega arith))
+    (read_clip (written r s) buffer (written_legal r s (omega arith)) refl (λ e. omega arith) (omega arith) (λ e. omega arith) (omega arith))
     ∙ rw (half, little_of_bytes 4 r small-rate, samples_back s fits)
 
 -- if the buffer is too short they are refused 13, however many they are
 pub no_room_refused : (r : ℕ) (s buffer : List ℤ) → 36 + 2 * length s < 2 ^ 32 → length buffer < length s →
     wav_read (written r s) buffer ≡ record { answer = refusal 13; samples = buffer }
-no_room_refused r s buffer small short = sym (short-buffer (written r s) buffer (written_legal r s small) refl (λ e. omega arith) (omega arith))
+no_room_refused r s buffer small short = sym (short_buffer (written r s) buffer (written_legal r s small) refl (λ e. omega arith) (omega arith))
 
 -- more than 4,096 are refused 2 if they fit
 pub many_refused : (r : ℕ) (s buffer : List ℤ) → 36 + 2 * length s < 2 ^ 32 → longest_row < length s → length s ≤ length buffer →
     wav_read (written r s) buffer ≡ record { answer = refusal 2; samples = buffer }
 many_refused r s buffer small many room =
-    sym (many-samples (written r s) buffer (written_legal r s small) refl (λ e. omega arith) (omega arith) (λ e. omega arith) (omega arith))
+    sym (many_samples (written r s) buffer (written_legal r s small) refl (λ e. omega arith) (omega arith) (λ e. omega arith) (omega arith))

@@ -5,7 +5,7 @@ use lib.ListN.{take-append-drop}
 use lib.Seq.{length-take-le}
 use Rattle.bspline.specs.Limits.{work_words}
 use Rattle.answers.specs.Answers.{described}
-use Rattle.picture_transform.proofs.PicturePasses.{rows_ready, columns_ready, picture-filtered}
+use Rattle.picture_transform.proofs.PicturePasses.{rows_ready, columns_ready, picture_filtered}
 use Rattle.picture_transform.proofs.filter_picture.Goals as goal
 
 -- a list whose first numbers were lent and came back is as long as it was
@@ -40,7 +40,7 @@ returns c =
     let long = returned (work_words d.width) part work c.filter_lines.auto.work ∙ c.requires.words in
     record {
       coefficients =
-          picture-filtered d c.args.pixels.now c.raise_picture.new.c c.requires.good c.raise_picture.ensures
+          picture_filtered d c.args.pixels.now c.raise_picture.new.c c.requires.good c.raise_picture.ensures
           c.filter_lines.new.c c.filter_lines.ensures c.filter_lines-2.new.c c.filter_lines-2.ensures;
       small = c.raise_picture.ensures.small;
       cleared =

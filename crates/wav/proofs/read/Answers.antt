@@ -3,7 +3,7 @@ use Rattle.std.proofs.Common.{◌/◌, drop, ◌++◌, sym, ap, ap₂, ◌∙◌
 use Rattle.std.proofs.Math.Seq.{length-take-le}
 use Rattle.wavefile.specs.Outcomes.{clip}
 use Rattle.wavefile.specs.Samples.{samples}
-use Rattle.wavefile.proofs.Clips.{bad_file, other_format, odd-length, short-buffer, no-samples, many-samples, read-clip}
+use Rattle.wavefile.proofs.Clips.{bad_file, other_format, odd_length, short_buffer, no_samples, many_samples, read_clip}
 use Rattle.wav.proofs.Lending.{legal_file, content_lent, lent_lengths}
 use Rattle.wav.proofs.read.Goals as goal
 
@@ -14,20 +14,20 @@ pub returns-then-not-plain : goal.returns-then-not-plain
 returns-then-not-plain c = other_format _ c.args.samples.now (legal_file c.in-Chunks.ensures) (sym c.if-not-plain.ensures)
 
 pub returns-then-size-eq1 : goal.returns-then-size-eq1
-returns-then-size-eq1 c = odd-length _ c.args.samples.now (legal_file c.in-Chunks.ensures) (sym c.if-not-plain.ensures) c.if-size-eq1.true
+returns-then-size-eq1 c = odd_length _ c.args.samples.now (legal_file c.in-Chunks.ensures) (sym c.if-not-plain.ensures) c.if-size-eq1.true
 
 pub returns-then-samples-count : goal.returns-then-samples-count
 returns-then-samples-count c =
-    short-buffer _ c.args.samples.now (legal_file c.in-Chunks.ensures) (sym c.if-not-plain.ensures) c.if-size-eq1.false c.if-samples-count.true
+    short_buffer _ c.args.samples.now (legal_file c.in-Chunks.ensures) (sym c.if-not-plain.ensures) c.if-size-eq1.false c.if-samples-count.true
 
 pub returns-then-count-eq0 : goal.returns-then-count-eq0
 returns-then-count-eq0 c =
-    no-samples _ c.args.samples.now (legal_file c.in-Chunks.ensures) (sym c.if-not-plain.ensures) c.if-size-eq1.false c.if-samples-count.false
+    no_samples _ c.args.samples.now (legal_file c.in-Chunks.ensures) (sym c.if-not-plain.ensures) c.if-size-eq1.false c.if-samples-count.false
     c.if-count-eq0.true
 
 pub returns-then-count-gt-LONGEST_ROW : goal.returns-then-count-gt-LONGEST_ROW
 returns-then-count-gt-LONGEST_ROW c =
-    many-samples _ c.args.samples.now (legal_file c.in-Chunks.ensures) (sym c.if-not-plain.ensures) c.if-size-eq1.false c.if-samples-count.false
+    many_samples _ c.args.samples.now (legal_file c.in-Chunks.ensures) (sym c.if-not-plain.ensures) c.if-size-eq1.false c.if-samples-count.false
     c.if-count-eq0.false c.if-count-gt-LONGEST_ROW.true
 
 pub returns : goal.returns
@@ -36,7 +36,7 @@ returns c =
     let buffer = c.args.samples.now in
     ap₂ (λ r s. record { answer = clip (f.size / 2) r; samples = s ++ drop (f.size / 2) buffer }) c.rate.ensures
     (c.fill.ensures ∙ ap samples (content_lent f.ensures))
-    ∙ read-clip _ buffer (legal_file f.ensures) (sym c.if-not-plain.ensures) c.if-size-eq1.false c.if-samples-count.false c.if-count-eq0.false
+    ∙ read_clip _ buffer (legal_file f.ensures) (sym c.if-not-plain.ensures) c.if-size-eq1.false c.if-samples-count.false c.if-count-eq0.false
     c.if-count-gt-LONGEST_ROW.false
 
 pub fill-requires : goal.fill-requires
