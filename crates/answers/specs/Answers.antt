@@ -1,5 +1,5 @@
--- The enums and structs of `answers`, read as the answers and descriptions of the specification: "Who can be refused". Assumes nothing.
-use Rattle.std.specs.Prelude.{ℕ}
+-- The answers and structs of the code, read as the answers and descriptions of the specification: "Who can be refused". Assumes nothing.
+use Rattle.std.specs.Prelude.{Bool, true, false, ℕ, ℤ, Result, Ok, Err}
 use Rattle.bspline.specs.Refusals.{Answer, count, value, refusal}
 use Rattle.bspline.specs.PictureLayout as layout
 use Rattle.bspline.specs.Values as values
@@ -7,10 +7,6 @@ use Rattle.answers.specs.declared.Position.{Position}
 use Rattle.answers.specs.declared.Refusal.{Refusal}
 use Rattle.answers.specs.declared.Refusal.TheVariants.{EmptyRow, LongRow, BadSide, WrongLayout, ShortWork, ShortCoefficients, BadFactor, BadNumerator, ShortValues, BadText, BadFile, OtherFormat, UnfitSamples, PastEnd, PastBottom, ManyValues}
 use Rattle.answers.specs.declared.Shape.{Shape}
-use Rattle.answers.specs.declared.Valued.{Valued}
-use Rattle.answers.specs.declared.Valued.TheVariants.{Value, Refused as NoValue}
-use Rattle.answers.specs.declared.Written.{Written}
-use Rattle.answers.specs.declared.Written.TheVariants.{Count, Refused as NotWritten}
 
 -- the number of each refusal
 abbrev pub number : Refusal → ℕ
@@ -31,14 +27,20 @@ number PastEnd = 14
 number PastBottom = 15
 number ManyValues = 16
 
--- what an enum answers
-abbrev pub written : Written → Answer
-written (Count n) = count n
-written (NotWritten r) = refusal (number r)
+-- what a transform, row zoom and enlarging answer: how many numbers were written, or the refusal
+abbrev pub written : Result ℕ Refusal → Answer
+written (Ok n) = count n
+written (Err r) = refusal (number r)
 
-abbrev pub valued : Valued → Answer
-valued (Value v) = value v
-valued (NoValue r) = refusal (number r)
+-- what row value and picture value answer: the value in units of 1/256 of a count, or the refusal
+abbrev pub valued : Result ℤ Refusal → Answer
+valued (Ok v) = value v
+valued (Err r) = refusal (number r)
+
+-- what a test answers: the refusal if its condition holds
+abbrev pub tested : Bool → Refusal → Result Unit Refusal
+tested true r = Err r
+tested false r = Ok tt
 
 -- what is promised of an accepted call
 abbrev pub Promised : Answer → Type 0 → Type 0

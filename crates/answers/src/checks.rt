@@ -1,12 +1,19 @@
-// Which factors, sides, layouts, numerators and places are refused.
+// Which factors, sides, layouts, numerators and places are refused, and how a test refuses.
 ghost use Rattle.std.specs.Prelude.{◌≡◌, ◌<◌};
 ghost use Rattle.bspline.specs.Limits.{greatest_factor};
 ghost use Rattle.bspline.specs.Refusals.{bad_coefficients, bad_numerator, bad_pixels, bad_sides, outside, past_end};
-ghost use Rattle.answers.specs.Answers.{described, placed};
-ghost use Rattle.answers.specs.Limits.{GoodSides};
+ghost use Rattle.answers.specs.Answers.{described, placed, tested};
 
 use crate::limits::{GREATEST_FACTOR, GREATEST_PITCH, LONGEST_SIDE};
-use crate::{Position, Shape};
+use crate::picture::Picture;
+use crate::{Position, Refusal, Shape};
+
+// Refuses where a condition holds, so that an operation is a list of its tests, each with `?`.
+pub fn refuse_if(condition: bool, refusal: Refusal) -> Result<(), Refusal>
+    ensures { result ≡ tested condition refusal }
+{
+    if condition { Err(refusal) } else { Ok(()) }
+}
 
 // Whether a number is 0 or above a limit.
 pub fn outside(limit: usize, n: usize) -> bool
@@ -30,13 +37,12 @@ pub fn bad_sides(shape: Shape) -> bool
 }
 
 // Whether a slice of pixels is refused for the pitch or for its length. The pitch is tested before it is multiplied.
-pub fn bad_pixels(shape: Shape, length: usize) -> bool
-    requires { GoodSides (described shape) }
-    ensures { result ≡ bad_pixels (described shape) length }
+pub fn bad_pixels(picture: Picture, length: usize) -> bool
+    ensures { result ≡ bad_pixels (described picture.shape) length }
 {
-    let width = shape.width;
-    let height = shape.height;
-    let pitch = shape.pitch;
+    let width = picture.shape.width;
+    let height = picture.shape.height;
+    let pitch = picture.shape.pitch;
     if pitch < width {
         return true;
     }
@@ -47,10 +53,10 @@ pub fn bad_pixels(shape: Shape, length: usize) -> bool
 }
 
 // Whether a slice of picture coefficients is refused for the pitch or for its length: both are those of the closely packed picture.
-pub fn bad_coefficients(shape: Shape, length: usize) -> bool
-    requires { GoodSides (described shape) }
-    ensures { result ≡ bad_coefficients (described shape) length }
+pub fn bad_coefficients(picture: Picture, length: usize) -> bool
+    ensures { result ≡ bad_coefficients (described picture.shape) length }
 {
+    let shape = picture.shape;
     let width = shape.width;
     shape.pitch != width || length != width * shape.height
 }

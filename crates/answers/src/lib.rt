@@ -1,81 +1,64 @@
-// What the operations answer, how pictures and positions are described, and what is refused. specs/Answers.antt reads the enums and structs as the
-// answers and descriptions of the specification.
+// Why operations refuse, and how pictures and positions are described. specs/Answers.antt reads results and structs as the answers and descriptions of
+// the specification.
 #![tactic(auto)]
 
 pub mod checks;
 pub mod counts;
+pub mod factor;
 pub mod limits;
+pub mod picture;
 
 ghost use Rattle.std.specs.Prelude.{◌≡◌};
 ghost use Rattle.answers.specs.Answers.{number};
 
-// Why a call is refused. A new one is a line here, one in `byte` and one in `number` of specs/Answers.antt.
-#[derive(Clone, Copy)]
+use std::error::Error;
+use std::fmt;
+
+// Why a call is refused, each with its number in the specification. A new one is a line here and one in `number` of specs/Answers.antt.
+#[derive(Clone, Copy, Debug, PartialEq, Eq)]
 pub enum Refusal {
-    EmptyRow,
-    LongRow,
-    BadSide,
-    WrongLayout,
-    ShortWork,
-    ShortCoefficients,
-    BadFactor,
-    BadNumerator,
-    ShortValues,
-    BadText,
-    BadFile,
-    OtherFormat,
-    UnfitSamples,
-    PastEnd,
-    PastBottom,
-    ManyValues,
+    EmptyRow = 1,
+    LongRow = 2,
+    BadSide = 3,
+    WrongLayout = 4,
+    ShortWork = 5,
+    ShortCoefficients = 6,
+    BadFactor = 7,
+    BadNumerator = 8,
+    ShortValues = 9,
+    BadText = 10,
+    BadFile = 11,
+    OtherFormat = 12,
+    UnfitSamples = 13,
+    PastEnd = 14,
+    PastBottom = 15,
+    ManyValues = 16,
 }
 
-impl Refusal {
-    // Its number in the specification, as a byte: whoever prints or negates it knows that it is small.
-    pub fn byte(self) -> u8
-        ensures { result ≡ number self }
-    {
-        match self {
-            Refusal::EmptyRow => 1,
-            Refusal::LongRow => 2,
-            Refusal::BadSide => 3,
-            Refusal::WrongLayout => 4,
-            Refusal::ShortWork => 5,
-            Refusal::ShortCoefficients => 6,
-            Refusal::BadFactor => 7,
-            Refusal::BadNumerator => 8,
-            Refusal::ShortValues => 9,
-            Refusal::BadText => 10,
-            Refusal::BadFile => 11,
-            Refusal::OtherFormat => 12,
-            Refusal::UnfitSamples => 13,
-            Refusal::PastEnd => 14,
-            Refusal::PastBottom => 15,
-            Refusal::ManyValues => 16,
-        }
-    }
+// The number, as a byte: whoever prints or negates it knows that it is small.
+impl From<Refusal> for u8 {
+    ghost from_gives = { λ r n. n ≡ number r };
 
-    // Its number in the specification.
-    pub fn number(self) -> usize
-        ensures { result ≡ number self }
-    {
-        self.byte() as usize
+    fn from(refusal: Refusal) -> u8 {
+        refusal as u8
     }
 }
 
-// What a transform, row zoom and enlarging answer: how many numbers were written, or the refusal.
-#[derive(Clone, Copy)]
-pub enum Written {
-    Count(usize),
-    Refused(Refusal),
+impl From<Refusal> for usize {
+    ghost from_gives = { λ r n. n ≡ number r };
+
+    fn from(refusal: Refusal) -> usize {
+        refusal as usize
+    }
 }
 
-// What row value and picture value answer: the value in units of 1/256 of a count, or the refusal.
-#[derive(Clone, Copy)]
-pub enum Valued {
-    Value(i32),
-    Refused(Refusal),
+impl fmt::Display for Refusal {
+    fn fmt<W: fmt::Write>(&self, f: &mut fmt::Formatter<W>) -> fmt::Result {
+        write!(f, "refused {}", u8::from(*self))
+    }
 }
+
+impl Error for Refusal {}
 
 // A picture's description: its sides, and the distance from one row's start to the next, counted in numbers of the slice.
 #[derive(Clone, Copy)]

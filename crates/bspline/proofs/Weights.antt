@@ -5,7 +5,7 @@
 use mathlib.Core.List.{List, [], ◌∷◌, ◌++◌, map, foldr, append-nil}
 use mathlib.Core.Path.{◌≡◌, refl, sym, ap, ap₂, subst, fun_ext, ◌∙◌}
 use Prim.Native.Nat.{ℕ, zero, suc, ◌+◌, ◌-◌, ◌*◌, ◌^◌, ◌≤◌, ◌<◌}
-use native.Mathlib.Nat.{add-zero, zero-add, pow-zero, pow-suc, mul-le-mul, mul-le-mul_left, add-sub_of_le}
+use native.Mathlib.Nat.{add-zero, pow-zero, pow-suc, mul-le-mul, mul-le-mul_left, add-sub_of_le}
 use native.Mathlib.Omega.{arith}
 use lib.IntN.{ℤ, pos, neg_ℤ, nat_abs, ◌+ℤ◌, ◌-ℤ◌, ◌*ℤ◌, +ℤ_idl, +ℤ_idr, +ℤ_assoc, *ℤ-zero}
 use lib.ListN.{length, length-map}
@@ -123,16 +123,11 @@ unfolding tabulate
 support_is n k f p q r s =
     ap₂ ◌∷◌ (p ∙ ap (λ i. f (mirror n (pos i -ℤ pos 1))) (sym (add-zero k))) (ap₂ ◌∷◌ q (ap₂ ◌∷◌ r (ap₂ ◌∷◌ s refl)))
 
--- a whole row is the part of itself from 0 on
-support_whole : (n k : ℕ) (c : List ℤ) → support n (λ i. at c (0 + i)) k ≡ support n (at c) k
-unfolding tabulate
-support_whole n k c = simp zero-add
-
 -- the row value is rounded from their weighted sum
-pub value_between : (m k j : ℕ) (c l : List ℤ) → l ≡ support (length c) (λ i. at c (0 + i)) k →
+pub value_between : (m k j : ℕ) (c l : List ℤ) → l ≡ support (length c) (at c) k →
     round (dot (weights m j) l) (96 * m ^ 3) ≡ value_in_row m c (record { k = k; j = j })
 unfolding value_in_row row_sum
-value_between m k j c l e = ap (λ l. round (dot (weights m j) l) (96 * m ^ 3)) (e ∙ support_whole (length c) k c)
+value_between m k j c l e = ap (λ l. round (dot (weights m j) l) (96 * m ^ 3)) e
 
 -- ---- the sum over sixteen coefficients of a picture, as a sum of sums along rows
 dot_append : (u v r s : List ℤ) → length u ≡ length r → dot (u ++ v) (r ++ s) ≡ dot u r +ℤ dot v s

@@ -20,10 +20,9 @@ pub fn raise(samples: &[i16], c: &mut [i32])
     requires { length c.old ≡ length samples.now }
     ensures { Raised samples.now c.new }
 {
-    let mut i = 0;
-    while i < c.len() {
-        c[i] = raised_sample(samples[i]);
-        i += 1;
+    // No `zip`: after it a proof knows the length of `c` and none of its numbers.
+    for (i, number) in c.iter_mut().enumerate() {
+        *number = raised_sample(samples[i]);
     }
 }
 
@@ -36,12 +35,11 @@ pub fn raise_picture(pixels: &[i16], shape: Shape, c: &mut [i32])
     let width = shape.width;
     let height = shape.height;
     let pitch = shape.pitch;
-    let mut y = 0;
-    while y < height {
+    // No `chunks_exact_mut` and `chunks`: they require a width and a pitch above 0, which this function does not.
+    for y in 0..height {
         let from = y * pitch;
         let to = y * width;
         raise(&pixels[from..from + width], &mut c[to..to + width]);
-        y += 1;
     }
 }
 
@@ -49,9 +47,5 @@ pub fn raise_picture(pixels: &[i16], shape: Shape, c: &mut [i32])
 pub fn clear(work: &mut [i64])
     ensures { work.new ≡ replicate (length work.old) (pos 0) }
 {
-    let mut word = 0;
-    while word < work.len() {
-        work[word] = 0;
-        word += 1;
-    }
+    work.fill(0);
 }

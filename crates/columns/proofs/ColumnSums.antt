@@ -9,11 +9,11 @@ use Rattle.bspline.specs.Lists.{at}
 use Rattle.bspline.specs.PictureLayout.{Shape, packed, pixel}
 use Rattle.bspline.specs.Values.{support}
 use Rattle.bspline.proofs.Weights.{support_is}
-use Rattle.columns.specs.declared.Starts.{Starts}
+use Rattle.sums.specs.declared.four.Four.{Four}
 use Rattle.columns.specs.Columns.{Columns, StartsOf, column}
 
 -- of n columns that lie in a buffer fewer do too
-pub columns_fewer : {s : Starts} {n : ℕ} {w c : List ℤ} (k : ℕ) → k ≤ n → Columns s n w c → Columns s k w c
+pub columns_fewer : {s : Four ℕ} {n : ℕ} {w c : List ℤ} (k : ℕ) → k ≤ n → Columns s n w c → Columns s k w c
 columns_fewer k h p =
     let r = p.reaches in
     record {
@@ -21,7 +21,7 @@ columns_fewer k h p =
       light = p.light;
     }
 
-pub column_is : (d : Shape) (l : ℕ) (s : Starts) (c : List ℤ) → StartsOf d l s → (x : ℕ) →
+pub column_is : (d : Shape) (l : ℕ) (s : Four ℕ) (c : List ℤ) → StartsOf d l s → (x : ℕ) →
     column s c x ≡ support d.height (λ y. pixel (packed d) c x y) l
 column_is d l s c e x =
     support_is d.height l (λ y. pixel (packed d) c x y) (from e.before) (from e.here) (from e.after) (from e.beyond)

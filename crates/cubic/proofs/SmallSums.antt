@@ -7,8 +7,9 @@ use lib.IntN.{ℤ, nat_abs}
 use lib.ListN.{length}
 use Rattle.bspline.specs.Values.{weights, dot}
 use Rattle.bspline.proofs.Weights.{weighted_within}
+use Rattle.rounding.specs.declared.Divisor.{Divisor}
 use Rattle.cubic.specs.Weighted.{Weighable}
 
-pub sum_small : {c : List ℤ} {m : ℕ} {d : ℤ} {u : ℕ} {values : List ℤ} → Weighable c m d u values → (j : ℕ) → j < length values →
-    nat_abs (dot (weights m j) c) ≤ 2 ^ 27 * nat_abs d
+pub sum_small : {c : List ℤ} {m : ℕ} {d : Divisor} {values : List ℤ} → Weighable c m d values → (j : ℕ) → j < length values →
+    nat_abs (dot (weights m j) c) ≤ 2 ^ 27 * nat_abs d.by
 sum_small {c} {m} p j h = le_trans (weighted_within m j p.bound c (omega (arith, h, p.room)) p.small) p.size

@@ -27,28 +27,32 @@ pub(crate) struct Differences {
     pub third: i64,
 }
 
-// The differences of a cubic at the numerator 0.
-pub(crate) fn at_start(f: Cubic) -> Differences
-    requires { CubicSmall f }
-    ensures { DifferencesAt f (pos 0) result }
-{
-    Differences {
-        value: f.zero,
-        first: f.one + f.two + f.three,
-        second: 2 * f.two + 6 * f.three,
-        third: 6 * f.three,
+impl Cubic {
+    // The differences at the numerator 0.
+    pub(crate) fn differences(self) -> Differences
+        requires { CubicSmall self }
+        ensures { DifferencesAt self (pos 0) result }
+    {
+        Differences {
+            value: self.zero,
+            first: self.one + self.two + self.three,
+            second: 2 * self.two + 6 * self.three,
+            third: 6 * self.three,
+        }
     }
 }
 
-// The differences at the next numerator, by three sums.
-pub(crate) fn next(d: Differences) -> Differences
-    requires { DifferencesSmall d }
-    ensures { Stepped d result }
-{
-    Differences {
-        value: d.value + d.first,
-        first: d.first + d.second,
-        second: d.second + d.third,
-        third: d.third,
+impl Differences {
+    // Those at the next numerator, by three sums.
+    pub(crate) fn next(self) -> Differences
+        requires { DifferencesSmall self }
+        ensures { Stepped self result }
+    {
+        Differences {
+            value: self.value + self.first,
+            first: self.first + self.second,
+            second: self.second + self.third,
+            third: self.third,
+        }
     }
 }

@@ -11,12 +11,13 @@ ghost use Rattle.cubic.specs.Weighted.{CubicOf, Weighable};
 
 use crate::Cubic;
 use crate::quotients::list_quotients;
-use rounding::round_by;
-use sums::rows::{Four, dot};
+use rounding::Divisor;
+use sums::four::Four;
+use sums::rows::dot;
 use sums::weights::weights_at;
 
 // The weighted sum of four numbers as a cubic of the numerator over m. The powers of m are worked in 32 bits.
-pub fn cubic_of(c: Four, m: usize) -> Cubic
+pub fn cubic_of(c: Four<i64>, m: usize) -> Cubic
     requires { AllWithin greatest_sum (listed c) × (m ≤ greatest_factor) }
     ensures { CubicOf m (listed c) result × CubicSmall result }
 {
@@ -29,27 +30,27 @@ pub fn cubic_of(c: Four, m: usize) -> Cubic
     }
 }
 
-// The rounded quotients of the weighted sum by a divisor with its unit, at the numerators from 0 up, as many as there is room for, each from the
-// weights of its numerator.
-fn list_weighted(c: Four, m: usize, divisor: i64, unit: u64, values: &mut [i32])
-    requires { Weighable (listed c) m divisor unit values.old }
-    ensures { values.new ≡ tabulate (λ j. round (dot (weights m j) (listed c)) (nat_abs divisor)) 0 (length values.old) }
+// The rounded quotients of the weighted sum by a divisor, at the numerators from 0 up, as many as there is room for, each from the weights of its
+// numerator.
+#[inline(always)]
+fn list_weighted(c: Four<i64>, m: usize, divisor: Divisor, values: &mut [i32])
+    requires { Weighable (listed c) m divisor values.old }
+    ensures { values.new ≡ tabulate (λ j. round (dot (weights m j) (listed c)) (nat_abs divisor.by)) 0 (length values.old) }
 {
-    let mut j = 0;
-    while j < values.len() {
-        values[j] = round_by(dot(weights_at(m, j), c), divisor, unit);
-        j += 1;
+    for (j, value) in values.iter_mut().enumerate() {
+        *value = divisor.round(dot(weights_at(m, j), c));
     }
 }
 
-// The same, by the cubic where that takes no more steps: from factor 3 on.
-pub fn list_sums(c: Four, m: usize, divisor: i64, unit: u64, values: &mut [i32])
-    requires { Weighable (listed c) m divisor unit values.old }
-    ensures { values.new ≡ tabulate (λ j. round (dot (weights m j) (listed c)) (nat_abs divisor)) 0 (length values.old) }
+// The same, by the cubic where that takes no more steps: from factor 3 on. Inlined as `list_quotients` is.
+#[inline(always)]
+pub fn list_sums(c: Four<i64>, m: usize, divisor: Divisor, values: &mut [i32])
+    requires { Weighable (listed c) m divisor values.old }
+    ensures { values.new ≡ tabulate (λ j. round (dot (weights m j) (listed c)) (nat_abs divisor.by)) 0 (length values.old) }
 {
     if m <= 2 {
-        list_weighted(c, m, divisor, unit, values);
+        list_weighted(c, m, divisor, values);
     } else {
-        list_quotients(cubic_of(c, m), divisor, unit, values);
+        list_quotients(cubic_of(c, m), divisor, values);
     }
 }

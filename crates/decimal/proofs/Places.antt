@@ -1,15 +1,18 @@
 -- How many digits numbers have, and how long their text is. Assumes nothing.
 use mathlib.Core.Bool.{Bool, true, false, cond}
+use mathlib.Core.List.{List, [], ◌∷◌, ◌++◌}
 use mathlib.Core.Logic.{◌⊎◌, inl, inr}
 use mathlib.Core.Path.{◌≡◌, refl, sym, ap, ◌∙◌}
-use Prim.Native.Nat.{ℕ, zero, suc, ◌-◌, ◌/◌, ◌^◌, ◌≤◌, ◌<◌}
-use native.Mathlib.Nat.{le_refl, eq-or-lt_of_le, pow-le-pow_right, lt_of_not-le}
+use Prim.Native.Nat.{ℕ, zero, suc, ◌+◌, ◌-◌, ◌/◌, ◌%◌, ◌^◌, ◌≤◌, ◌<◌}
+use native.Mathlib.Nat.{le_refl, eq-or-lt_of_le, pow-le-pow_right}
 use native.Mathlib.Numerals.{add-one}
 use native.Mathlib.Omega.{arith}
-use borrow.Author.Tests.{ltb-true, lt-ltb, le-ltb}
+use borrow.Author.Tests.{ltb-true, ltb-false, lt-ltb, le-ltb}
 use lib.Dec.{ltb}
 use lib.IntN.{ℤ, pos, negsuc}
 use lib.ListN.{length, length-append}
+use Rattle.std.proofs.lemmas.Fmt.{decimal_digit, decimal_step}
+use Rattle.std.specs.Fmt.{decimal as standard}
 use Rattle.integers.proofs.Choices.{either}
 use Rattle.decimal.specs.Decimal.{places_up_to, places, last_digits, decimal, signed_decimal, field}
 
@@ -75,13 +78,33 @@ signed_short (pos n) = omega (arith, decimal_length n, most 9 n)
 signed_short (negsuc n) = omega (arith, decimal_length (suc n), most 9 (suc n))
 
 -- ---- counting upward, a power of ten to a turn
--- a power of ten that is below another has the smaller exponent
-pub less : (k m : ℕ) → 10 ^ k < 10 ^ m → k < m
-less k m h = lt_of_not-le (λ over. let more : 10 ^ m ≤ 10 ^ k = pow-le-pow_right (omega arith) over in omega arith)
-
 -- the count at which a number is below the power of ten, and not below the one before
 pub found : (k n : ℕ) → 0 < k → k ≤ 10 → n < 10 ^ k → (1 < k → 10 ^ (k - 1) ≤ n) → k ≡ places n
 found zero n some few small big = absurd (omega arith)
 found (suc j) n some few small big =
     let e : suc j - 1 ≡ j = omega arith in
     sym (places_at 9 j n (omega arith) small (λ h. rw e at (big (omega arith))))
+
+-- ---- std's text of a number is the same
+std_by_places : (k n : ℕ) → n < 10 ^ suc k → n < 2 ^ 64 → standard n ≡ last_digits (places_up_to k n) n
+std_by_places zero n small fits =
+    let unit : n % 10 ≡ n = omega arith in
+    rw unit (decimal_digit n small)
+std_by_places (suc k) n small fits =
+    cases (ltb n (10 ^ suc k)) refl (λ l. std_by_places k n l fits) (λ l. std_by_places k (n / 10) l (omega arith))
+  where
+    cases : (b : Bool) → ltb n (10 ^ suc k) ≡ b → (n < 10 ^ suc k → standard n ≡ last_digits (places_up_to k n) n) →
+        (n / 10 < 10 ^ suc k → standard (n / 10) ≡ last_digits (places_up_to k (n / 10)) (n / 10)) →
+        standard n ≡ last_digits (cond b (places_up_to k n) (suc (suc k))) n
+    cases true e fewer shorter = fewer (ltb-true n (10 ^ suc k) e)
+    cases false e fewer shorter =
+        let big : 10 ^ suc k ≤ n = ltb-false n (10 ^ suc k) e in
+        let some : 10 ^ 1 ≤ 10 ^ suc k = pow-le-pow_right {n = 10} (omega arith) {i = 1} {j = suc k} (omega arith) in
+        let less : n / 10 < 10 ^ suc k = omega arith in
+        let whole : 10 ^ k ≤ n / 10 = omega arith in
+        decimal_step n (omega arith) fits
+        ∙ ap (λ (l : List ℕ). l ++ ((48 + n % 10) ∷ [])) (shorter less ∙ ap (λ (j : ℕ). last_digits j (n / 10)) (reached k (n / 10) (λ z. whole)))
+
+pub std_decimal : (n : ℕ) → n < 10 ^ 10 → standard n ≡ decimal n
+unfolding decimal
+std_decimal n small = std_by_places 9 n small (omega arith)

@@ -11,6 +11,10 @@ use lib.Ieee.{Float}
 use lib.ListN.{length}
 use Rattle.bspline.specs.Limits.{greatest_factor, most_values}
 use Rattle.bspline.specs.Refusals.{Test, ◌when◌, refusal_1, refusal_2, refusal_7, outside, judged}
+use Rattle.std.proofs.Common.{Ok}
+use Rattle.onset.specs.Answers.{detected}
+use Rattle.onset.specs.declared.Detection.{Detection}
+use Rattle.onset.specs.declared.Detection.TheVariants.{Onset, Quiet}
 use Rattle.onset.specs.Outcomes.{Answer as Search, onset, quiet, refusal as unsearched, answer_at, find_onset}
 use Rattle.onset.specs.Runs.{first_run}
 use Rattle.delay.specs.Outcomes.{Answer, refusal, exact_factor, refusal_19, difference, find_delay, no_delay}
@@ -20,6 +24,11 @@ abbrev pub unless : {A : Type 0} → (ℕ → A) → Search → A → A
 unless refuse (onset x h) after = after
 unless refuse (quiet h) after = after
 unless refuse (unsearched k) after = refuse k
+
+-- a search that is not refused goes on to what comes after it
+pub not_refused : {A : Type 0} (refuse : ℕ → A) (d : Detection) (after : A) → unless refuse (detected (Ok d)) after ≡ after
+not_refused refuse (Onset x h) after = refl
+not_refused refuse (Quiet h) after = refl
 
 -- what two searches come to
 abbrev pub paired : ℕ → Search → Search → Answer

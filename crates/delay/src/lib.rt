@@ -4,30 +4,49 @@
 
 ghost use Rattle.std.specs.Prelude.{◌≡◌};
 ghost use Rattle.delay.specs.Answers.{number, measured};
+ghost use Rattle.delay.specs.declared.Refusal.TheVariants.{Search};
 ghost use Rattle.delay.specs.Outcomes.{exact_factor, no_delay, unmeasured, find_delay, Measured};
 
 use onset::Detection;
+use std::error::Error;
+use std::fmt;
 
 // Why a call is refused: for what the search for an onset refuses, or for what the plotter does.
-#[derive(Clone, Copy)]
+#[derive(Clone, Copy, Debug, PartialEq, Eq)]
 pub enum Refusal {
     Search(onset::Refusal),
     InexactFactor,
     QuietRow,
 }
 
-impl Refusal {
-    // Its number in the specification.
-    pub fn number(self) -> usize
-        ensures { result ≡ number self }
-    {
-        match self {
-            Refusal::Search(r) => r.number(),
+// The number in the specification; a refusal of the search keeps its own.
+impl From<Refusal> for usize {
+    ghost from_gives = { λ r n. n ≡ number r };
+
+    fn from(refusal: Refusal) -> usize {
+        match refusal {
+            Refusal::Search(r) => usize::from(r),
             Refusal::InexactFactor => 19,
             Refusal::QuietRow => 20,
         }
     }
 }
+
+impl From<onset::Refusal> for Refusal {
+    ghost from_gives = { λ r s. s ≡ Search r };
+
+    fn from(refusal: onset::Refusal) -> Refusal {
+        Refusal::Search(refusal)
+    }
+}
+
+impl fmt::Display for Refusal {
+    fn fmt<W: fmt::Write>(&self, f: &mut fmt::Formatter<W>) -> fmt::Result {
+        write!(f, "refused {}", usize::from(*self))
+    }
+}
+
+impl Error for Refusal {}
 
 // The first position less the second one, in samples, and the heights of both onsets, in counts.
 #[derive(Clone, Copy)]
@@ -35,13 +54,6 @@ pub struct Delay {
     pub samples: f64,
     pub first_height: f64,
     pub second_height: f64,
-}
-
-// What is answered: the delay, or the refusal.
-#[derive(Clone, Copy)]
-pub enum Measurement {
-    Delay(Delay),
-    Refused(Refusal),
 }
 
 // Whether positions at a factor, and so their differences, are exact.
@@ -67,35 +79,29 @@ fn no_delay(m: usize) -> Refusal
 fn unmeasured(second: &[i32], m: usize) -> Refusal
     ensures { number result ≡ unmeasured second.now m }
 {
-    match onset::find(second, m, -2147483648) {
-        Detection::Onset(_, _) => no_delay(m),
-        Detection::Quiet(_) => no_delay(m),
-        Detection::Refused(r) => Refusal::Search(r),
+    match onset::find(second, m, i32::MIN) {
+        Ok(_) => no_delay(m),
+        Err(refusal) => Refusal::from(refusal),
     }
 }
 
 // The delay between the onsets of two rows: the position of the first less that of the second, with the heights that the search answers.
-pub fn between(first: &[i32], second: &[i32], m: usize, threshold: i32) -> Measurement
+pub fn between(first: &[i32], second: &[i32], m: usize, threshold: i32) -> Result<Delay, Refusal>
     ensures result_value { measured result ≡ find_delay first.now second.now m threshold }
     ensures measured { Measured first.now second.now m threshold (measured result) }
 {
-    match onset::find(first, m, threshold) {
-        Detection::Onset(x, h) => {
-            if exact(m) {
-                match onset::find(second, m, threshold) {
-                    Detection::Onset(y, g) => Measurement::Delay(Delay {
-                        samples: x - y,
-                        first_height: h,
-                        second_height: g,
-                    }),
-                    Detection::Quiet(_) => Measurement::Refused(Refusal::QuietRow),
-                    Detection::Refused(r) => Measurement::Refused(Refusal::Search(r)),
-                }
-            } else {
-                Measurement::Refused(unmeasured(second, m))
-            }
-        }
-        Detection::Quiet(_) => Measurement::Refused(unmeasured(second, m)),
-        Detection::Refused(r) => Measurement::Refused(Refusal::Search(r)),
+    let Detection::Onset(x, h) = onset::find(first, m, threshold)? else {
+        return Err(unmeasured(second, m));
+    };
+    if !exact(m) {
+        return Err(unmeasured(second, m));
     }
+    let Detection::Onset(y, g) = onset::find(second, m, threshold)? else {
+        return Err(Refusal::QuietRow);
+    };
+    Ok(Delay {
+        samples: x - y,
+        first_height: h,
+        second_height: g,
+    })
 }

@@ -6,8 +6,6 @@ ghost use Rattle.std.specs.Prelude.{◌≡◌};
 ghost use Rattle.delay.specs.Outcomes.{find_delay};
 ghost use Rattle.delay_harness.specs.Codes.{coded_delay};
 
-use delay::Measurement;
-
 #[unsafe(no_mangle)]
 pub extern "C" fn harness_delay_between(
     first: &[i32],
@@ -22,12 +20,12 @@ pub extern "C" fn harness_delay_between(
         ≡ coded_delay samples.old first_height.old second_height.old (find_delay first.now second.now m threshold) }
 {
     match delay::between(first, second, m, threshold) {
-        Measurement::Delay(d) => {
+        Ok(d) => {
             *samples = d.samples;
             *first_height = d.first_height;
             *second_height = d.second_height;
             0
         }
-        Measurement::Refused(r) => r.number(),
+        Err(refusal) => usize::from(refusal),
     }
 }

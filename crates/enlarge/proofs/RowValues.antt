@@ -10,7 +10,7 @@ use lib.ListN.{length}
 use lib.Signed.{◌<ℤ◌}
 use Rattle.integers.specs.Rounding.{round}
 use Rattle.integers.proofs.Linear.{reify, show}
-use Rattle.bspline.specs.Bounds.{AllWithin, sizes}
+use Rattle.bspline.specs.Bounds.{AllWithin}
 use Rattle.bspline.specs.Lists.{tabulate, at}
 use Rattle.bspline.specs.Mirror.{mirror}
 use Rattle.bspline.specs.Values.{Position, weights, support, dot, row_sum, zoom_position}
@@ -18,10 +18,12 @@ use Rattle.bspline.proofs.Lists.{tabulate_same}
 use Rattle.bspline.proofs.Mirror.{reflected, mirror_is, mirror_unique}
 use Rattle.bspline.proofs.Weights.{sixth}
 use Rattle.bspline.proofs.Zoom.{position_at}
-use Rattle.sums.specs.declared.rows.Four.{Four}
+use Rattle.answers.specs.declared.factor.Factor.{Factor}
+use Rattle.sums.specs.declared.four.Four.{Four}
 use Rattle.sums.specs.Sums.{listed}
 use Rattle.sums.proofs.Divisors.{picture_divisible}
-use Rattle.columns.specs.declared.Starts.{Starts}
+use Rattle.columns.specs.declared.Band.{Band}
+use Rattle.columns.specs.Bands.{most_of}
 use Rattle.columns.proofs.ColumnSums.{columns_fewer}
 use Rattle.places.specs.Places.{values_between, Continues, Listable}
 use Rattle.enlarge.specs.Rows.{value_along, RowReady}
@@ -57,7 +59,7 @@ between_row m n f k d count some = tabulate_same _ _ 0 count (λ i h. each i)
 
 -- ---- which columns join the sums
 -- sums around place k are continued by the columns that the further indices read
-continued : (n : ℕ) (f : ℕ → ℤ) (k x places : ℕ) (first : Four) → listed first ≡ support n f k →
+continued : (n : ℕ) (f : ℕ → ℤ) (k x places : ℕ) (first : Four ℤ) → listed first ≡ support n f k →
     ((i : ℕ) → i < places → mirror n (pos (k + (i + 3)) -ℤ pos 1) ≡ x + i) → Continues (around n f k) first.before first.here first.after f x places
 unfolding tabulate
 continued n f k x places first e reads = record {
@@ -68,34 +70,34 @@ continued n f k x places first e reads = record {
 }
 
 -- from place 0 on, the columns from 2 to the last
-pub from_left : (n : ℕ) (f : ℕ → ℤ) (places : ℕ) (first : Four) → listed first ≡ support n f 0 → 2 + places ≤ n →
+pub from_left : (n : ℕ) (f : ℕ → ℤ) (places : ℕ) (first : Four ℤ) → listed first ≡ support n f 0 → 2 + places ≤ n →
     Continues (around n f 0) first.before first.here first.after f 2 places
 from_left n f places first e h =
     continued n f 0 2 places first e (λ i l. mirror_is n _ (2 + i) (omega arith) (show (simp reify tt) (omega arith)))
 
 -- from the last place but one on, that column itself
-pub at_right : (n : ℕ) (f : ℕ → ℤ) (k : ℕ) (first : Four) → listed first ≡ support n f k → k + 2 ≡ n →
+pub at_right : (n : ℕ) (f : ℕ → ℤ) (k : ℕ) (first : Four ℤ) → listed first ≡ support n f k → k + 2 ≡ n →
     Continues (around n f k) first.before first.here first.after f k 1
 at_right n f k first e h =
     continued n f k k 1 first e (λ i l. mirror_unique n _ (k + i) (omega arith) (reflected (pos 1) (show (simp reify tt) (omega arith))))
 
 -- ---- what is asked
-module _ {width : ℕ} {starts : Starts} {w : List ℤ} {m : ℕ} {c : List ℤ} (ready : RowReady width starts w m c) where
+module _ {b : Band} {m : Factor} (ready : RowReady b m) where
   -- a sum of sums is at most 2^27 divisors
-  pub quotient_small : 6 * m ^ 3 * (sizes w * 2 ^ 31) ≤ 2 ^ 27 * (576 * m ^ 6)
-  quotient_small = omega (arith, ap (λ t. 6 * m ^ 3 * (t * 2 ^ 31)) ready.total, sixth m)
+  pub quotient_small : 6 * m.value ^ 3 * most_of b ≤ 2 ^ 27 * (576 * m.value ^ 6)
+  quotient_small = omega (arith, ap (λ t. 6 * m.value ^ 3 * (t * 2 ^ 31)) ready.total, sixth m.value)
 
-  pub divisor_above : pos 0 <ℤ pos (576 * m ^ 6)
-  divisor_above = (picture_divisible m ready.factor.some ready.factor.small (pos 0) refl (omega arith)).0
+  pub divisor_above : pos 0 <ℤ pos (576 * m.value ^ 6)
+  divisor_above = (picture_divisible m.value m.within.some m.within.small (pos 0) refl (omega arith)).0
 
-  pub listable : (x places : ℕ) (first : Four) (values : List ℤ) → x + places ≤ width → AllWithin (sizes w * 2 ^ 31) (listed first) →
-      length values ≡ places * m → Listable x places starts w first m (pos (576 * m ^ 6)) c values
+  pub listable : (x places : ℕ) (first : Four ℤ) (values : List ℤ) → x + places ≤ b.width → AllWithin (most_of b) (listed first) →
+      length values ≡ places * m.value → Listable b x places first m.value (pos (576 * m.value ^ 6)) values
   listable x places first values h small room = record {
     columns = columns_fewer (x + places) h ready.columns;
     few = omega (arith, ready.narrow);
     small = small;
-    some = ready.factor.some;
-    factor = ready.factor.small;
+    some = m.within.some;
+    factor = m.within.small;
     above = divisor_above;
     size = quotient_small;
     room = room;

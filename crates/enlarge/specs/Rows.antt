@@ -6,9 +6,11 @@ use Rattle.bspline.specs.Limits.{longest_side}
 use Rattle.bspline.specs.Lists.{tabulate}
 use Rattle.bspline.specs.PictureLayout.{Shape, area}
 use Rattle.bspline.specs.Values.{row_sum, zoom_position}
-use Rattle.answers.specs.Limits.{Factor, GoodSides}
-use Rattle.columns.specs.declared.Starts.{Starts}
-use Rattle.columns.specs.Columns.{Columns}
+use Rattle.answers.specs.Limits.{GoodSides}
+use Rattle.answers.specs.declared.factor.Factor.{Factor}
+use Rattle.sums.specs.Sums.{listed}
+use Rattle.columns.specs.declared.Band.{Band}
+use Rattle.columns.specs.Bands.{Holds, sums_along}
 
 -- the i-th value along a row of n numbers, at i/m
 abbrev pub value_along : ℕ → ℕ → (ℕ → ℤ) → ℕ → ℕ → ℤ
@@ -18,16 +20,21 @@ value_along m n f divisor i = round (row_sum m n f (zoom_position m i)) divisor
 abbrev pub values_along : ℕ → ℕ → (ℕ → ℤ) → ℕ → ℕ → ℕ → List ℤ
 values_along m n f divisor from count = tabulate (value_along m n f divisor) from count
 
+-- one value of the sums along the columns of four rows, rounded by 576m⁶, and so many of them
+abbrev pub value_in : ℕ → Band → ℕ → ℤ
+value_in m b i = value_along m b.width (sums_along b) (576 * m ^ 6) i
+
+abbrev pub values_in : ℕ → Band → ℕ → ℕ → List ℤ
+values_in m b from count = values_along m b.width (sums_along b) (576 * m ^ 6) from count
+
 -- four rows of a picture, weights that are those of a numerator, and a factor
-pub record RowReady (width : ℕ) (starts : Starts) (w : List ℤ) (m : ℕ) (c : List ℤ) : Type 0 where
-  pub some : 0 < width
-  pub narrow : width ≤ longest_side
-  pub columns : Columns starts width w c
-  pub total : sizes w ≡ 6 * m ^ 3
-  pub factor : Factor m
+pub record RowReady (b : Band) (m : Factor) : Type 0 where
+  pub some : 0 < b.width
+  pub narrow : b.width ≤ longest_side
+  pub columns : Holds b b.width
+  pub total : sizes (listed b.weights) ≡ 6 * m.value ^ 3
 
 -- a picture whose sides are not refused, with its coefficients, and a factor
-pub record Ready (d : Shape) (m : ℕ) (c : List ℤ) : Type 0 where
+pub record Ready (d : Shape) (m : Factor) (c : List ℤ) : Type 0 where
   pub good : GoodSides d
   pub count : length c ≡ area d
-  pub factor : Factor m

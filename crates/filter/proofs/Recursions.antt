@@ -11,11 +11,12 @@ use lib.IntN.{ℤ, pos, nat_abs}
 use lib.ListN.{length, take, drop, set, length-set}
 use lib.Seq.{drop-cons, drop-length, take_all, take-suc-set}
 use Rattle.bspline.specs.Bounds.{AllWithin}
-use Rattle.bspline.specs.Recursions.{margin, causal, forward, anticausal, first, backward, coefficient, delivered}
+use Rattle.bspline.specs.Limits.{work_words}
+use Rattle.bspline.specs.Recursions.{margin, causal, window, forward, anticausal, first, backward, coefficient, delivered}
 use Rattle.bspline.specs.Lists.{at, tabulate}
 use Rattle.bspline.proofs.Lines.{delivered_at}
-use Rattle.bspline.proofs.Ranges.{causal_range, anticausal_range}
-use Rattle.filter.specs.Lines.{AnticausalAt, scatter}
+use Rattle.bspline.proofs.Ranges.{causal_range, anticausal_range, forward_within, window_within, loaded_range}
+use Rattle.filter.specs.Lines.{AnticausalAt, CausalWindow, Line, loaded_line, scatter}
 use Rattle.filter.proofs.Scatter.{scatter_length}
 
 -- ---- forward over a table of N numbers: i of them are done, and p is the last
@@ -50,6 +51,18 @@ causal_all {f} {N} {w} {p} {i} v h =
     let e : N - i ≡ 0 = omega arith in
     let l : length w ≤ i = omega (arith, v.long) in
     sym (v.whole ∙ rw (e, take_all i w l, append-nil))
+
+-- what is left of the window of a line: the p of all its places, each in its range
+pub causal_window : (from step n : ℕ) (c left : List ℤ) → Line from step n c → length left ≡ work_words n →
+    left ≡ forward (pos 0) (window n (loaded_line from step c)) → CausalWindow n left
+causal_window from step n c left l long e = record {
+  long = long;
+  small =
+      rw e
+      (forward_within (27 * 2 ^ 28) (lit≤ tt) (pos 0) (window n (loaded_line from step c)) zero-le
+      (window_within (27 * 2 ^ 28) (lit≤ tt) n (loaded_line from step c) l.some
+      (λ k h. loaded_range 16 (27 * 2 ^ 24) (at c (from + step * k)) (l.small k h))));
+}
 
 -- ---- backward over a list of p, from the last place down: `AnticausalAt`
 pub anticausal_none : (w : List ℤ) → AnticausalAt w (pos 0) (length w)

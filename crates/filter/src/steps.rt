@@ -8,6 +8,7 @@ use rounding::round_div;
 const POLE: i64 = 575416509;
 
 // R(a): a / 2^31 rounded to nearest.
+#[tactic(auto, unfolding(bspline::specs::Recursions::R))]
 fn scale_down(a: i64) -> i64
     requires { nat_abs a + 2 ^ 32 ≤ 2 ^ 63 }
     ensures { result ≡ R a }
@@ -24,6 +25,7 @@ pub(crate) fn causal_step(c: i32, p: i64) -> i64
 }
 
 // b[k] from p[k] and b[k+1].
+#[tactic(auto, unfolding(bspline::specs::Recursions::anticausal))]
 pub(crate) fn anticausal_step(p: i64, b: i64) -> i64
     requires { (nat_abs p ≤ 81 * 2 ^ 27) × (nat_abs b ≤ 243 * 2 ^ 24) }
     ensures { result ≡ anticausal p b }

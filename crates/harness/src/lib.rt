@@ -12,45 +12,43 @@ ghost use Rattle.turns.specs.Outcomes.{announce, turn};
 ghost use Rattle.harness.specs.Codes.{code, value_code, clip_code, coded_transform, coded_values, coded_read, coded_search, coded_announcement, coded_turn};
 
 use onset::Detection;
-use spline::{Position, Refusal, Shape, Valued, Written};
-use turns::{Named, Reply, STATIONS, TurnTaker};
-use wav::Reading;
+use spline::{Position, Refusal, Shape};
+use turns::{STATIONS, TurnTaker};
+use wav::Clip;
+
+// C takes one number of each answer, so the answers have codes here.
 
 // A count as a signed number. No count is so great that it must be cut.
 fn count_code(n: usize) -> i64
     ensures { result ≡ pos (min n (2 ^ 63 - 1)) }
 {
-    if n <= 9223372036854775807 {
-        n as i64
-    } else {
-        9223372036854775807
-    }
+    n.min(9223372036854775807) as i64
 }
 
 // A refusal's number negated.
 fn refusal_code(r: Refusal) -> i64
     ensures { result ≡ neg_ℤ (pos (number r)) }
 {
-    -(r.byte() as i64)
+    -i64::from(u8::from(r))
 }
 
 // A count as itself, or a refusal's number negated.
-fn written_code(w: Written) -> i64
+fn written_code(w: Result<usize, Refusal>) -> i64
     ensures { result ≡ code (written w) }
 {
     match w {
-        Written::Count(n) => count_code(n),
-        Written::Refused(r) => refusal_code(r),
+        Ok(n) => count_code(n),
+        Err(r) => refusal_code(r),
     }
 }
 
 // A value as itself, or 2^32, which is above every value, plus a refusal's number.
-fn valued_code(v: Valued) -> i64
+fn valued_code(v: Result<i32, Refusal>) -> i64
     ensures { result ≡ value_code (valued v) }
 {
     match v {
-        Valued::Value(x) => x as i64,
-        Valued::Refused(r) => 4294967296 + r.byte() as i64,
+        Ok(x) => i64::from(x),
+        Err(r) => 4294967296 + i64::from(u8::from(r)),
     }
 }
 
@@ -58,17 +56,16 @@ fn valued_code(v: Valued) -> i64
 fn clip_code(count: usize, rate: u32) -> i64
     ensures { result ≡ pos (rate * 2 ^ 16 + min count (2 ^ 16 - 1)) }
 {
-    let low = if count <= 65535 { count } else { 65535 };
-    (rate as usize * 65536 + low) as i64
+    (rate as usize * 65536 + count.min(65535)) as i64
 }
 
 // The code of a clip, or a refusal's number negated.
-fn reading_code(r: Reading) -> i64
+fn reading_code(r: Result<Clip, Refusal>) -> i64
     ensures { result ≡ clip_code (answered r) }
 {
     match r {
-        Reading::Clip { count, rate } => clip_code(count, rate),
-        Reading::Refused(r) => refusal_code(r),
+        Ok(Clip { count, rate }) => clip_code(count, rate),
+        Err(r) => refusal_code(r),
     }
 }
 
@@ -184,16 +181,16 @@ pub extern "C" fn harness_onset_find(
         ≡ coded_search position.old height.old (find_onset values.now m threshold) }
 {
     match onset::find(values, m, threshold) {
-        Detection::Onset(x, h) => {
+        Ok(Detection::Onset(x, h)) => {
             *position = x;
             *height = h;
             2
         }
-        Detection::Quiet(h) => {
+        Ok(Detection::Quiet(h)) => {
             *height = h;
             1
         }
-        Detection::Refused(r) => refusal_code(r),
+        Err(r) => refusal_code(r),
     }
 }
 
@@ -215,10 +212,9 @@ pub extern "C" fn harness_announce(
     let marks = next.waiting;
     *waiting = marks;
     *last = next.last;
-    let answer = done.answer;
-    match answer {
-        Reply::Accepted => 0,
-        Reply::Refused(r) => r.number(),
+    match done.answer {
+        Ok(()) => 0,
+        Err(r) => usize::from(r),
     }
 }
 
@@ -236,9 +232,8 @@ pub extern "C" fn harness_turn(waiting: &mut [bool; STATIONS], last: &mut usize)
     let marks = next.waiting;
     *waiting = marks;
     *last = next.last;
-    let answer = done.answer;
-    match answer {
-        Named::Station(station) => station,
-        Named::Nobody => 18446744073709551615,
+    match done.answer {
+        Some(station) => station,
+        None => usize::MAX,
     }
 }

@@ -1,12 +1,12 @@
 -- What the machine asks and gives of signed numbers: a number from its bits, and `/` and `%`, which round toward zero.
--- `div_asks` is what the two operations ask, `quot_fits` and `rem_fits` strip the bits off their results. The floor is the quotient, less one
+-- `div_asks` is what the two operations ask, `rem_fits` and std's `quot_fits` strip the bits off their results. The floor is the quotient, less one
 -- where the remainder is negative (`floor_quotient`, `floor_quotient_less`); or it is the exact quotient of what is left without the
 -- remainder from 0 up (`modulo_remainder`, `modulo_remainder_less`, `floor_exact`); or, for a number that a multiple of d brings to 0 or above, an
 -- unsigned quotient less that multiple (`floor_moved`). Assumes nothing.
 use mathlib.Core.Logic.{◌⊎◌, inl, inr}
 use mathlib.Core.Path.{◌≡◌, ◌∙◌, ap}
-use Prim.Native.Nat.{ℕ, suc, ◌*◌, ◌/◌, ◌^◌, ◌<◌}
-use native.Mathlib.Nat.{div-add-mod, mod-lt, div-le_self, mul-le-mul_left}
+use Prim.Native.Nat.{ℕ, ◌*◌, ◌/◌, ◌^◌, ◌<◌}
+use native.Mathlib.Nat.{mul-le-mul_left}
 use native.Mathlib.Omega.{arith}
 use lib.IntN.{ℤ, pos, negsuc, nat_abs, ◌+ℤ◌, ◌-ℤ◌, ◌*ℤ◌, *ℤ_comm}
 use lib.Signed.{◌≤ℤ◌, ◌<ℤ◌, quot_z, rem_z, mag_rem}
@@ -14,6 +14,7 @@ use mir.Facts.{to_z-of_z}
 use mir.Syntax.{Width}
 use mir.Val.{SFits, hbits, to_z, of_z}
 use mir.ValLaws.{sfits_le}
+use Rattle.std.proofs.lemmas.Int.{quot-rem, quot_fits, rem_below}
 use Rattle.integers.specs.Division.{floor, modulo}
 use Rattle.integers.proofs.Absolute.{abs_mul, abs_fits, fits_abs}
 use Rattle.integers.proofs.Parts.{of_lt}
@@ -27,28 +28,13 @@ product_widens {v} w m x f h = fits_abs w (pos m *ℤ x) (omega (arith, abs_mul 
 
 -- ---- the quotient and the remainder toward zero
 
-pub quot_rem : (a d : ℤ) → quot_z a d *ℤ d +ℤ rem_z a d ≡ a
-quot_rem (pos a) (pos b) = show (simp reify tt) (omega (arith, div-add-mod a b))
-quot_rem (pos a) (negsuc b) = show (simp reify tt) (omega (arith, div-add-mod a (suc b)))
-quot_rem (negsuc a) (pos b) = show (simp reify tt) (omega (arith, div-add-mod (suc a) b))
-quot_rem (negsuc a) (negsuc b) = show (simp reify tt) (omega (arith, div-add-mod (suc a) (suc b)))
-
-pub rem_below : (a d : ℤ) → 0 < nat_abs d → nat_abs (rem_z a d) < nat_abs d
-rem_below (pos a) d h = mod-lt a h
-rem_below (negsuc a) d h = show (simp reify tt) (omega (arith, mod-lt (suc a) h))
-
-pub quot_fits : {w : Width} (a d : ℤ) → pos 0 <ℤ d → SFits w a → SFits w (quot_z a d)
-quot_fits {w} (pos a) (pos d) h = show (simp reify tt) (omega (arith, div-le_self a d))
-quot_fits {w} (negsuc a) (pos d) h = show (simp reify tt) (omega (arith, div-le_self (suc a) d))
-quot_fits a (negsuc d) h = λ f. absurd h.lt
-
 pub rem_fits : {w : Width} (a d : ℤ) → SFits w a → SFits w (rem_z a d)
 rem_fits a d f = sfits_le (mag_rem a d) f
 
 -- what the machine asks of `a / d` and of `a % d`, with a positive d
 pub div_asks : (w : Width) (a d : ℤ) → pos 0 <ℤ d → SFits w a → SFits w d
     → (0 < of_z w d) × SFits w (quot_z (to_z w (of_z w a)) (to_z w (of_z w d)))
-div_asks w a d h f g = (bits d h, simp (to_z-of_z f, to_z-of_z g) (quot_fits a d h f))
+div_asks w a d h f g = (bits d h, simp (to_z-of_z f, to_z-of_z g) (quot_fits w a d f h))
   where
     bits : (d : ℤ) → pos 0 <ℤ d → 0 < of_z w d
     bits (pos d) h = omega (arith, of_lt h)
@@ -73,19 +59,19 @@ less a q r n e k b = let l = shift e k b in exact a (q -ℤ pos 1) (r +ℤ pos n
 
 pub floor_quotient : (a d : ℤ) → pos 0 <ℤ d → pos 0 ≤ℤ rem_z a d → quot_z a d ≡ floor a (nat_abs d)
 floor_quotient a (pos n) h k =
-    exact a (quot_z a (pos n)) (rem_z a (pos n)) n (quot_rem a (pos n)) k (rem_below a (pos n) (omega (arith, of_lt h)))
+    exact a (quot_z a (pos n)) (rem_z a (pos n)) n (quot-rem a (pos n)) k (rem_below a (pos n) (omega (arith, of_lt h)))
 floor_quotient a (negsuc n) h k = absurd h.lt
 
 pub floor_quotient_less : (a d : ℤ) → pos 0 <ℤ d → rem_z a d <ℤ pos 0 → quot_z a d -ℤ pos 1 ≡ floor a (nat_abs d)
 floor_quotient_less a (pos n) h k =
-    less a (quot_z a (pos n)) (rem_z a (pos n)) n (quot_rem a (pos n)) k (rem_below a (pos n) (omega (arith, of_lt h)))
+    less a (quot_z a (pos n)) (rem_z a (pos n)) n (quot-rem a (pos n)) k (rem_below a (pos n) (omega (arith, of_lt h)))
 floor_quotient_less a (negsuc n) h k = absurd h.lt
 
 -- ---- from the remainder toward zero to the remainder from 0 up: d more where it is negative
 pub modulo_remainder : (a d : ℤ) → pos 0 <ℤ d → pos 0 ≤ℤ rem_z a d → rem_z a d ≡ pos (modulo a (nat_abs d))
 modulo_remainder a (negsuc d) h k = absurd h.lt
 modulo_remainder a (pos n) h k =
-    rest (quot_z a (pos n)) (rem_z a (pos n)) (floor a n) (pos (modulo a n)) (quot_rem a (pos n)) (floor_quotient a (pos n) h k) (modulo_equation a n (omega (arith, of_lt h)))
+    rest (quot_z a (pos n)) (rem_z a (pos n)) (floor a n) (pos (modulo a n)) (quot-rem a (pos n)) (floor_quotient a (pos n) h k) (modulo_equation a n (omega (arith, of_lt h)))
   where
     rest : (q r f m : ℤ) → q *ℤ pos n +ℤ r ≡ a → q ≡ f → a ≡ pos n *ℤ f +ℤ m → r ≡ m
     rest q r f m e g k = same (rw g at e) k
@@ -96,7 +82,7 @@ modulo_remainder a (pos n) h k =
 pub modulo_remainder_less : (a d : ℤ) → pos 0 <ℤ d → rem_z a d <ℤ pos 0 → rem_z a d +ℤ d ≡ pos (modulo a (nat_abs d))
 modulo_remainder_less a (negsuc d) h k = absurd h.lt
 modulo_remainder_less a (pos n) h k =
-    rest (quot_z a (pos n)) (rem_z a (pos n)) (floor a n) (pos (modulo a n)) (quot_rem a (pos n)) (floor_quotient_less a (pos n) h k) (modulo_equation a n (omega (arith, of_lt h)))
+    rest (quot_z a (pos n)) (rem_z a (pos n)) (floor a n) (pos (modulo a n)) (quot-rem a (pos n)) (floor_quotient_less a (pos n) h k) (modulo_equation a n (omega (arith, of_lt h)))
   where
     rest : (q r f m : ℤ) → q *ℤ pos n +ℤ r ≡ a → q -ℤ pos 1 ≡ f → a ≡ pos n *ℤ f +ℤ m → r +ℤ pos n ≡ m
     rest q r f m e g k = same e (rw (← g) at k)
@@ -130,7 +116,7 @@ floor_exact a (pos n) h = rw whole (multiple (floor a n))
         by_sign : (pos 0 ≤ℤ rem_z (pos n *ℤ q) (pos n)) ⊎ (rem_z (pos n *ℤ q) (pos n) <ℤ pos 0) → quot_z (pos n *ℤ q) (pos n) ≡ q
         by_sign (inl k) = floor_quotient (pos n *ℤ q) (pos n) h k ∙ floor_multiple q n n-above
         by_sign (inr k) =
-            absurd (too_far (quot_z (pos n *ℤ q) (pos n)) (rem_z (pos n *ℤ q) (pos n)) (quot_rem (pos n *ℤ q) (pos n))
+            absurd (too_far (quot_z (pos n *ℤ q) (pos n)) (rem_z (pos n *ℤ q) (pos n)) (quot-rem (pos n *ℤ q) (pos n))
             (floor_quotient_less (pos n *ℤ q) (pos n) h k ∙ floor_multiple q n n-above) (rem_below (pos n *ℤ q) (pos n) n-above))
 
 -- a number moved up by k times d to 0 or above: the unsigned quotient less k is the floor

@@ -11,8 +11,7 @@ use lib.ListN.{length, take}
 use lib.Seq.{take_all, length-take-le}
 use Rattle.readtext.specs.Numbers.{numbers}
 use Rattle.readtext.specs.Readings.{Reads}
-use Rattle.readtext.specs.declared.text.Numbers.{Numbers}
-use Rattle.readtext.specs.declared.text.Numbers.TheVariants.{Count, Illegal}
+use Rattle.std.proofs.Common.{Option, None, Some}
 use Rattle.judgetext.specs.Answers.{ReadsText}
 use Rattle.judgetext.specs.Limits.{longest_text}
 use Rattle.judgetext.specs.Outcomes.{refused, zoom_numbers, zoom_text}
@@ -36,6 +35,6 @@ cut_too_long t = by_length (ltb longest_text (length t)) refl
     by_length false e = ap zoom_text (take_all (longest_text + 1) t (omega (arith, ltb-false longest_text (length t) e)))
 
 -- what was read of a text that is not too long
-pub of_reading : (t : List ℕ) (buffer : List ℤ) (r : Numbers) → length t ≤ longest_text → Reads t buffer r → ReadsText t buffer r
-of_reading t buffer (Count n) short h = record { all = h.all; outcome = of_numbers t short ∙ ap zoom_numbers h.legal; begun = h.begun }
-of_reading t buffer Illegal short h = of_numbers t short ∙ ap zoom_numbers h
+pub of_reading : (t : List ℕ) (buffer : List ℤ) (r : Option ℕ) → length t ≤ longest_text → Reads t buffer r → ReadsText t buffer r
+of_reading t buffer (Some n) short h = record { all = h.all; outcome = of_numbers t short ∙ ap zoom_numbers h.legal; begun = h.begun }
+of_reading t buffer None short h = of_numbers t short ∙ ap zoom_numbers h

@@ -1,4 +1,4 @@
--- What a text gives, and the enum of `judgetext` read as that.
+-- What a text gives, and the answers of `judgetext` read as that.
 pub mod Limits
 pub mod Outcomes
 pub mod Answers

@@ -1,4 +1,5 @@
-// The arrays of a program that reads a text and lists its values, by their lengths: none is too short.
+// The arrays of a program that reads a text and lists its values, by their lengths: none is too short. Each is one expression, which a generic function
+// of a length would have to repeat with its type.
 ghost use Rattle.std.specs.Prelude.{◌≡◌, ◌+◌, pos, replicate};
 ghost use Rattle.bspline.specs.Limits.{most_values};
 ghost use Rattle.judgetext.specs.Limits.{longest_text};

@@ -2,13 +2,14 @@
 use mathlib.Core.Bool.{Bool, true, false, cond}
 use mathlib.Core.List.{List, [], ◌∷◌}
 use mathlib.Core.Path.{◌≡◌, refl, subst}
-use Prim.Native.Nat.{ℕ, zero, suc, ◌+◌, ◌-◌, ◌≤◌, ◌<◌, zero-le}
+use Prim.Native.Nat.{ℕ, zero, suc, ◌+◌, ◌-◌, ◌≤◌, ◌<◌}
 use native.Mathlib.Decide.{dec_lt}
 use native.Mathlib.Omega.{arith}
 use borrow.Author.Count.{below_more}
 use lib.IntN.{ℤ}
 use lib.ListN.{length}
-use lib.Signed.{lt_z, ◌≤ℤ◌, ≤ℤ_refl}
+use Rattle.std.specs.Int.{int_max}
+use lib.Signed.{lt_z, ◌≤ℤ◌}
 use Rattle.integers.proofs.Laws.{≤ℤ_antisym, ≤ℤ_trans}
 use Rattle.integers.proofs.Linear.{reify, read, show}
 use Rattle.bspline.specs.Lists.{at}
@@ -32,6 +33,19 @@ greater_second v w = go (lt_z v w) refl
     go : (less : Bool) → lt_z v w ≡ less → w ≤ℤ cond less w v
     go true e = show (simp reify tt) (omega arith)
     go false e = show (simp reify tt) (omega (arith, read e (simp reify tt)))
+
+-- std's `max` takes the second of two that are equal
+pub max_greater : (v w : ℤ) → int_max v w ≡ greater v w
+max_greater v w = go (lt_z v w) (lt_z w v) refl refl
+  where
+    go : (less more : Bool) → lt_z v w ≡ less → lt_z w v ≡ more → cond more v w ≡ cond less w v
+    go true true e f = absurd (omega (arith, read e (simp reify tt), read f (simp reify tt)))
+    go true false e f = refl
+    go false true e f = refl
+    go false false e f =
+        let low : w ≤ℤ v = show (simp reify tt) (omega (arith, read e (simp reify tt))) in
+        let high : v ≤ℤ w = show (simp reify tt) (omega (arith, read f (simp reify tt))) in
+        ≤ℤ_antisym low high
 
 -- ---- none is above it
 from_first : (v : ℤ) (l : List ℤ) → v ≤ℤ greatest_from v l
@@ -85,15 +99,6 @@ pub record Best (l : List ℤ) (half : ℕ) (best : ℤ) (i : ℕ) : Type 0 wher
   pub high : (k : ℕ) → k < i → at l (half + k) ≤ℤ best
   pub last : at l (length l - 1) ≤ℤ best
   pub one : OneOf l best
-
-pub best_first : (l : List ℤ) (half : ℕ) → 0 < length l → Best l half (at l (length l - 1)) 0
-best_first l half h = record {
-  inside = zero-le;
-  low = λ k e. absurd (omega arith);
-  high = λ k e. absurd (omega arith);
-  last = ≤ℤ_refl (at l (length l - 1));
-  one = (length l - 1, omega arith, refl);
-}
 
 pub best_more : {l : List ℤ} {half : ℕ} {best : ℤ} {i : ℕ} → Best l half best i → i < half → half + half ≤ length l →
     Best l half (greater best (greater (at l i) (at l (half + i)))) (i + 1)

@@ -4,7 +4,9 @@ use mathlib.Core.Option.{some, none}
 use mathlib.Core.Path.{◌≡◌, refl, ap, ◌∙◌}
 use Prim.Native.Nat.{ℕ, ◌^◌, ◌≤◌, ◌<◌}
 use native.Mathlib.Omega.{arith}
-use borrow.Author.Tests.{le-ltb, ne_eqb}
+use borrow.Author.Tests.{le-ltb, ne_eqb, eqb-false, ltb-false}
+use mathlib.Core.Bool.{false}
+use Rattle.std.specs.Bool.{◌==◌, nat_lt}
 use lib.Dec.{lit≤}
 use lib.IntN.{ℤ, pos, nat_abs}
 use lib.Ieee.{binary64}
@@ -17,7 +19,8 @@ use Rattle.floats.proofs.Nearest.{quotient_nearest}
 use Rattle.floats.proofs.Quotients.{quotient_exact}
 use Rattle.bspline.specs.Limits.{greatest_factor, most_values}
 use Rattle.bspline.specs.Lists.{at}
-use Rattle.bspline.proofs.Refusals.{inside}
+use Rattle.bspline.specs.Refusals.{outside}
+use Rattle.bspline.proofs.Refusals.{inside, one_to}
 use Rattle.onset.specs.Measures.{position, height}
 use Rattle.onset.specs.Outcomes.{onset, quiet, answer_at, find_onset, OnsetMeasured, QuietMeasured}
 use Rattle.onset.specs.Runs.{first_run, greatest, Run, FirstRun, NoRun}
@@ -29,6 +32,13 @@ pub record Accepted (values : List ℤ) (m : ℕ) : Type 0 where
   pub few_values : length values ≤ most_values
   pub some_steps : 0 < m
   pub few_steps : m ≤ greatest_factor
+
+-- by the tests that do not refuse them
+pub accepted_by : (values : List ℤ) (m : ℕ) → (length values == 0) ≡ false → nat_lt most_values (length values) ≡ false → outside greatest_factor m ≡ false →
+    Accepted values m
+accepted_by values m filled few factor =
+    let steps = one_to greatest_factor m factor in
+    record { some_values = omega (arith, eqb-false (length values) 0 filled); few_values = omega (arith, ltb-false most_values (length values) few); some_steps = steps.0; few_steps = steps.1 }
 
 -- ---- the answer, by the place
 pub accepted_answer : (values : List ℤ) (m : ℕ) (t : ℤ) → Accepted values m → find_onset values m t ≡ answer_at m values (first_run t values)

@@ -3,6 +3,7 @@ ghost use Rattle.std.specs.Prelude.{◌≡◌, ◌≤◌, ◌^◌};
 ghost use Rattle.onset.specs.Measures.{position, height};
 
 // A place over the factor, in samples.
+#[tactic(auto, unfolding(crate::specs::Measures::position))]
 pub(crate) fn position(place: usize, m: usize) -> f64
     requires { (place ≤ 2 ^ 53) × (m ≤ 2 ^ 53) }
     ensures { result ≡ position m place }

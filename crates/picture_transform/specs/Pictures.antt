@@ -4,11 +4,9 @@ use Rattle.bspline.specs.Bounds.{PictureWithin}
 use Rattle.bspline.specs.Limits.{work_words}
 use Rattle.bspline.specs.PictureLayout.{Shape, area, extent, pixel}
 use Rattle.bspline.specs.Transforms.{picture_coefficients}
-use Rattle.answers.specs.Limits.{GoodSides}
 
 -- pixels that the slice holds, and buffers of exactly the lengths that the sides ask
 pub record PictureBuffers (d : Shape) (p c work : List ℤ) : Type 0 where
-  pub good : GoodSides d
   pub pixels : extent d ≤ length p
   pub coefficients : length c ≡ area d
   pub words : length work ≡ work_words (max d.width d.height)

@@ -11,23 +11,23 @@ use Rattle.integers.specs.Rounding.{round}
 use Rattle.bspline.specs.Lists.{tabulate, at}
 use Rattle.bspline.specs.Values.{weights, dot}
 use Rattle.bspline.proofs.Lists.{tabulate_length, tabulate_from_zero}
-use Rattle.places.specs.declared.Three.{Three}
+use Rattle.sums.specs.declared.four.Four.{Four}
 use Rattle.places.specs.Places.{values_between}
 
--- at place k the three are the numbers from s k on
-pub record Rolled (s : ℕ → ℤ) (k : ℕ) (t : Three) : Type 0 where
+-- at place k the first three of four are the numbers from s k on
+pub record Rolled (s : ℕ → ℤ) (k : ℕ) (t : Four ℤ) : Type 0 where
   pub before : t.before ≡ s k
   pub here : t.here ≡ s (k + 1)
   pub after : t.after ≡ s (k + 2)
 
 -- and as small as a sum may be
-pub record ThreeSmall (B : ℕ) (t : Three) : Type 0 where
+pub record FirstSmall (B : ℕ) (t : Four ℤ) : Type 0 where
   pub before : Within B t.before
   pub here : Within B t.here
   pub after : Within B t.after
 
 -- with the next number they are the four of a value
-pub four_is : (s : ℕ → ℤ) (k : ℕ) (t : Three) (x : ℤ) → Rolled s k t → x ≡ s (k + 3) → t.before ∷ t.here ∷ t.after ∷ x ∷ [] ≡ tabulate s k 4
+pub four_is : (s : ℕ → ℤ) (k : ℕ) (t : Four ℤ) (x : ℤ) → Rolled s k t → x ≡ s (k + 3) → t.before ∷ t.here ∷ t.after ∷ x ∷ [] ≡ tabulate s k 4
 unfolding tabulate
 four_is s k t x r e =
     ap₂ ◌∷◌ r.before (ap₂ ◌∷◌ (r.here ∙ ap s (omega arith)) (ap₂ ◌∷◌ (r.after ∙ ap s (omega arith)) (ap₂ ◌∷◌ (e ∙ ap s (omega arith)) refl)))

@@ -1,14 +1,14 @@
 -- The values from places of a row on, of whatever numbers the row has, and what the code asks that lists them. Assumes nothing.
 use Rattle.std.specs.Prelude.{List, ◌≡◌, ℕ, ◌+◌, ◌*◌, ◌/◌, ◌%◌, ◌^◌, ◌≤◌, ◌<◌, ℤ, pos, nat_abs, length, ◌<ℤ◌}
 use Rattle.integers.specs.Rounding.{round}
-use Rattle.bspline.specs.Bounds.{AllWithin, sizes}
+use Rattle.bspline.specs.Bounds.{AllWithin}
 use Rattle.bspline.specs.Limits.{greatest_factor, longest_side}
 use Rattle.bspline.specs.Lists.{tabulate}
 use Rattle.bspline.specs.Values.{weights, dot}
-use Rattle.sums.specs.declared.rows.Four.{Four}
+use Rattle.sums.specs.declared.four.Four.{Four}
 use Rattle.sums.specs.Sums as four
-use Rattle.columns.specs.declared.Starts.{Starts}
-use Rattle.columns.specs.Columns.{Columns}
+use Rattle.columns.specs.declared.Band.{Band}
+use Rattle.columns.specs.Bands.{Holds, most_of}
 
 -- n values of the numbers s, m from each place on: the four numbers at the first place are s 0 to s 3, at the next s 1 to s 4
 unfoldable pub values_between : ℕ → (ℕ → ℤ) → ℕ → ℕ → List ℤ
@@ -23,16 +23,16 @@ pub record Continues (s : ℕ → ℤ) (before here after : ℤ) (sum : ℕ → 
 
 -- so many columns from x on, sums around the first place that are as small as those along columns, a factor, a divisor so great that a quotient is at
 -- most 2^27, and room for m values from each place on
-pub record Listable (x places : ℕ) (starts : Starts) (w : List ℤ) (first : Four) (m : ℕ) (d : ℤ) (c values : List ℤ) : Type 0 where
-  pub columns : Columns starts (x + places) w c
+pub record Listable (b : Band) (x places : ℕ) (first : Four ℤ) (m : ℕ) (d : ℤ) (values : List ℤ) : Type 0 where
+  pub columns : Holds b (x + places)
   pub few : places ≤ longest_side
-  pub small : AllWithin (sizes w * 2 ^ 31) (four.listed first)
+  pub small : AllWithin (most_of b) (four.listed first)
   pub some : 0 < m
   pub factor : m ≤ greatest_factor
   pub above : pos 0 <ℤ d
-  pub size : 6 * m ^ 3 * (sizes w * 2 ^ 31) ≤ 2 ^ 27 * nat_abs d
+  pub size : 6 * m ^ 3 * most_of b ≤ 2 ^ 27 * nat_abs d
   pub room : length values ≡ places * m
 
 -- the values of whatever numbers continue the three
-pub record Listed (first : Four) (sum : ℕ → ℤ) (x places m divisor : ℕ) (before after : List ℤ) : Type 0 where
+pub record Listed (first : Four ℤ) (sum : ℕ → ℤ) (x places m divisor : ℕ) (before after : List ℤ) : Type 0 where
   pub listed : (s : ℕ → ℤ) → Continues s first.before first.here first.after sum x places → after ≡ values_between m s divisor (length before)

@@ -1,99 +1,73 @@
 // The values from places of a row on, made of sums along columns.
 #![tactic(auto)]
 
-ghost use Rattle.std.specs.Prelude.{◌*◌, ◌^◌, pos, nat_abs};
-ghost use Rattle.rounding.specs.Roundable.{Unit};
-ghost use Rattle.answers.specs.Limits.{Factor};
-ghost use Rattle.columns.specs.Columns.{column_sum};
-ghost use Rattle.sums.specs.Weights.{weighed};
+ghost use Rattle.std.specs.Prelude.{◌*◌, ◌^◌, pos};
+ghost use Rattle.rounding.specs.Roundable.{Counted};
+ghost use Rattle.columns.specs.Bands.{sums_along};
 ghost use Rattle.places.specs.Places.{Listable, Listed};
 
-use columns::{Starts, column_sum};
+use answers::factor::Factor;
+use columns::Band;
 use cubic::weighted::list_sums;
-use sums::rows::Four;
-use sums::weights::Weights;
+use rounding::Divisor;
+use sums::four::Four;
+use sums::weights::picture_divisor;
 
-// The sums along the columns of the places k - 1, k and k + 1.
-#[derive(Clone, Copy)]
-struct Three {
-    before: i64,
-    here: i64,
-    after: i64,
-}
-
-// The values from some places on, m from each. Of the four sums around the first place the first three are used, and at each place the sum along the
-// next column is added to them: column x at the first place, x + 1 at the second.
-fn list_places(
-    c: &[i32],
+// The values from some places on, M from each, by the constant divisor of the factor M and a unit for it. Of the four sums around the first place the
+// first three are used, and at each place the sum along the next column is added to them: column x at the first place, x + 1 at the second.
+fn list_places<const M: usize>(
+    band: Band,
     x: usize,
     places: usize,
-    starts: Starts,
-    w: Weights,
-    first: Four,
-    m: usize,
-    divisor: i64,
+    first: Four<i64>,
     unit: u64,
     values: &mut [i32],
 )
-    requires { Listable x places starts (weighed w) first m divisor c.now values.old × Unit (nat_abs divisor) unit }
-    ensures { Listed first (column_sum (weighed w) starts c.now) x places m (nat_abs divisor) values.old values.new }
+    requires { Listable band x places first M (pos (576 * M ^ 6)) values.old × Counted (576 * M ^ 6) unit }
+    ensures { Listed first (sums_along band.entry) x places M (576 * M ^ 6) values.old values.new }
 {
-    let mut sums = Three {
-        before: first.before,
-        here: first.here,
-        after: first.after,
+    let divisor = Divisor {
+        by: picture_divisor(M),
+        unit: Some(unit),
     };
-    let mut k = 0;
-    while k < places {
-        let beyond = column_sum(c, starts, w, x + k);
-        let four = Four {
-            before: sums.before,
-            here: sums.here,
-            after: sums.after,
-            beyond,
+    // Each place sets the last of the four anew, the sum along the next column.
+    let mut sums = first;
+    for k in 0..places {
+        sums.beyond = band.sum(x + k);
+        // No `chunks_exact_mut`: after such a loop a proof knows the length of what was lent, and not the values.
+        let from = k * M;
+        list_sums(sums, M, divisor, &mut values[from..from + M]);
+        sums = Four {
+            before: sums.here,
+            here: sums.after,
+            after: sums.beyond,
+            beyond: sums.beyond,
         };
-        let from = k * m;
-        list_sums(four, m, divisor, unit, &mut values[from..from + m]);
-        sums = Three {
-            before: four.here,
-            here: four.after,
-            after: four.beyond,
-        };
-        k += 1;
     }
 }
 
-// The same from n places on, by 576m⁶. Each factor has its constant divisor and a unit for it, which are chosen once for all places. At 4, 8 and 16
-// the divisor is 9 units; at 1 and 2 a unit that does not divide it takes less time.
-pub fn list_between(
-    c: &[i32],
-    x: usize,
-    n: usize,
-    starts: Starts,
-    w: Weights,
-    four: Four,
-    m: usize,
-    values: &mut [i32],
-)
-    requires { Listable x n starts (weighed w) four m (pos (576 * m ^ 6)) c.now values.old × Factor m }
-    ensures { Listed four (column_sum (weighed w) starts c.now) x n m (576 * m ^ 6) values.old values.new }
+// The same from n places on, by 576m⁶. Each factor has its own constants, which are chosen once for all places: only by an arm of its own does a factor
+// become one. At 4, 8 and 16 the divisor is 9 units; at 1 and 2 a unit that does not divide it takes less time.
+pub fn list_between(band: Band, x: usize, n: usize, four: Four<i64>, m: Factor, values: &mut [i32])
+    requires { Listable band x n four m.value (pos (576 * m.value ^ 6)) values.old }
+    ensures { Listed four (sums_along band.entry) x n m.value (576 * m.value ^ 6) values.old values.new }
 {
-    match m {
-        1 => list_places(c, x, n, starts, w, four, 1, 576, 128, values),
-        2 => list_places(c, x, n, starts, w, four, 2, 36864, 8192, values),
-        3 => list_places(c, x, n, starts, w, four, 3, 419904, 32768, values),
-        4 => list_places(c, x, n, starts, w, four, 4, 2359296, 262144, values),
-        5 => list_places(c, x, n, starts, w, four, 5, 9000000, 1048576, values),
-        6 => list_places(c, x, n, starts, w, four, 6, 26873856, 2097152, values),
-        7 => list_places(c, x, n, starts, w, four, 7, 67765824, 8388608, values),
-        8 => list_places(c, x, n, starts, w, four, 8, 150994944, 16777216, values),
-        9 => list_places(c, x, n, starts, w, four, 9, 306110016, 33554432, values),
-        10 => list_places(c, x, n, starts, w, four, 10, 576000000, 67108864, values),
-        11 => list_places(c, x, n, starts, w, four, 11, 1020419136, 67108864, values),
-        12 => list_places(c, x, n, starts, w, four, 12, 1719926784, 134217728, values),
-        13 => list_places(c, x, n, starts, w, four, 13, 2780241984, 268435456, values),
-        14 => list_places(c, x, n, starts, w, four, 14, 4337012736, 536870912, values),
-        15 => list_places(c, x, n, starts, w, four, 15, 6561000000, 536870912, values),
-        _ => list_places(c, x, n, starts, w, four, 16, 9663676416, 1073741824, values),
+    match m.value {
+        1 => list_places::<1>(band, x, n, four, 128, values),
+        2 => list_places::<2>(band, x, n, four, 8192, values),
+        3 => list_places::<3>(band, x, n, four, 32768, values),
+        4 => list_places::<4>(band, x, n, four, 262144, values),
+        5 => list_places::<5>(band, x, n, four, 1048576, values),
+        6 => list_places::<6>(band, x, n, four, 2097152, values),
+        7 => list_places::<7>(band, x, n, four, 8388608, values),
+        8 => list_places::<8>(band, x, n, four, 16777216, values),
+        9 => list_places::<9>(band, x, n, four, 33554432, values),
+        10 => list_places::<10>(band, x, n, four, 67108864, values),
+        11 => list_places::<11>(band, x, n, four, 67108864, values),
+        12 => list_places::<12>(band, x, n, four, 134217728, values),
+        13 => list_places::<13>(band, x, n, four, 268435456, values),
+        14 => list_places::<14>(band, x, n, four, 536870912, values),
+        15 => list_places::<15>(band, x, n, four, 536870912, values),
+        _ => list_places::<16>(band, x, n, four, 1073741824, values),
     }
 }

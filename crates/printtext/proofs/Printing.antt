@@ -7,13 +7,15 @@ use native.Mathlib.Nat.{zero-add}
 use borrow.Author.Tests.{lt-leb, le-leb}
 use lib.IntN.{ℤ}
 use lib.ListN.{length}
+use Rattle.std.proofs.Common.{Result}
+use Rattle.answers.specs.declared.Refusal.{Refusal}
 use Rattle.decimal.specs.Buffers.{Put}
 use Rattle.judgetext.specs.Answers.{found}
-use Rattle.judgetext.specs.declared.Zoomed.{Zoomed}
+use Rattle.judgetext.specs.declared.Sizes.{Sizes}
 use Rattle.printtext.specs.Output.{block, part}
 use Rattle.printtext.specs.Printing.{Printed, held, print_part}
 
-module _ (z : Zoomed) (values : List ℤ) (b : ℕ) (buffer : List ℕ) where
+module _ (z : Result Sizes Refusal) (values : List ℤ) (b : ℕ) (buffer : List ℕ) where
   abbrev nothing : Printed
   nothing = record { bytes = 0; out = buffer }
 

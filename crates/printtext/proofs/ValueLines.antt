@@ -1,15 +1,14 @@
 -- The lines of values: those of some and then those of others, one line more, and the position of the line after one. Assumes nothing.
 use mathlib.Core.List.{List, [], ◌∷◌, ◌++◌, append_assoc, append-nil}
 use mathlib.Core.Path.{◌≡◌, sym, ap, ap₂, ◌∙◌}
-use Prim.Native.Nat.{ℕ, zero, suc, ◌+◌, ◌-◌, ◌*◌, ◌≤◌, ◌<◌}
-use native.Mathlib.Nat.{zero-add, add-zero, suc-add, add_assoc, add-mul}
+use Prim.Native.Nat.{ℕ, zero, suc, ◌+◌, ◌*◌, ◌<◌}
+use native.Mathlib.Nat.{zero-add, add-zero, suc-add, add_assoc}
 use native.Mathlib.Omega.{arith}
 use lib.IntN.{ℤ}
 use lib.ListN.{length, take, drop, get_or}
-use lib.Seq.{take-nil, drop-cons, drop-drop}
+use lib.Seq.{take-nil, drop-cons}
 use Rattle.bspline.specs.Values.{zoom_position}
 use Rattle.bspline.proofs.Zoom.{position_at}
-use Rattle.printtext.specs.Lines.{between}
 use Rattle.printtext.specs.Output.{value_line, value_lines}
 
 -- the lines of the first d values, then those of the e after them
@@ -27,26 +26,15 @@ lines_split m i (suc d) e (v ∷ vs) =
     ∙ ap (λ (n : ℕ). value_lines m i (take n (v ∷ vs))) (sym (suc-add d e))
 
 -- one line more
-pub lines_more : (m from i : ℕ) (vs : List ℤ) (z : ℤ) → from ≤ i → i < length vs →
-    value_lines m from (between from (i + 1) vs) ≡ value_lines m from (between from i vs) ++ value_line (zoom_position m i) (get_or vs i z)
+pub lines_more : (m from d : ℕ) (vs : List ℤ) (z : ℤ) → d < length vs →
+    value_lines m from (take (d + 1) vs) ≡ value_lines m from (take d vs) ++ value_line (zoom_position m (from + d)) (get_or vs d z)
 unfolding value_lines
-lines_more m from i vs z h k =
-    let rest = drop from vs in
-    let done = value_lines m from (between from i vs) in
-    let next : i + 1 - from ≡ i - from + 1 = omega arith in
-    let here : from + (i - from) ≡ i = omega arith in
-    let value : drop (i - from) rest ≡ get_or vs i z ∷ drop (suc i) vs =
-    drop-drop (i - from) from vs ∙ ap (λ (n : ℕ). drop n vs) here ∙ drop-cons vs i z k in
-    ap (λ (n : ℕ). value_lines m from (take n rest)) next
-    ∙ sym (lines_split m from (i - from) 1 rest)
-    ∙ ap₂ (λ (n : ℕ) (l : List ℤ). done ++ value_lines m n (take 1 l)) here value
-    ∙ ap (λ (l : List ℕ). done ++ l) (append-nil (value_line (zoom_position m i) (get_or vs i z)))
+lines_more m from d vs z h =
+    let line = value_line (zoom_position m (from + d)) (get_or vs d z) in
+    sym (lines_split m from d 1 vs)
+    ∙ ap (λ (l : List ℤ). value_lines m from (take d vs) ++ value_lines m (from + d) (take 1 l)) (drop-cons vs d z h)
+    ∙ ap (λ (l : List ℕ). value_lines m from (take d vs) ++ l) (append-nil line)
 
--- the position after one: the next numerator, or the next place
+-- the position after one that is not at the last numerator of its place
 pub position_next : (m k j : ℕ) → j + 1 < m → record { k = k; j = j + 1 } ≡ zoom_position m (k * m + j + 1)
 position_next m k j h = sym (ap (zoom_position m) (add_assoc (k * m) j 1) ∙ position_at m k (j + 1) h)
-
-pub position_carried : (m k j : ℕ) → j < m → j + 1 ≡ m → record { k = k + 1; j = 0 } ≡ zoom_position m (k * m + j + 1)
-position_carried m k j h e =
-    let place : k * m + j + 1 ≡ (k + 1) * m + 0 = omega (arith, add-mul k 1 m) in
-    sym (ap (zoom_position m) place ∙ position_at m (k + 1) 0 (omega arith))

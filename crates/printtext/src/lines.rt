@@ -12,6 +12,7 @@ use decimal::{LINE_FEED, SPACE, put_field, put_signed, put_word};
 use judgetext::Sizes;
 
 // The first line of values.
+#[tactic(auto, using(crate::proofs::LineFields::samples_short, crate::proofs::LineFields::factor_short, crate::proofs::LineFields::values_short))]
 pub(crate) fn put_header(s: Sizes, out: &mut [u8]) -> usize
     requires { (s.samples ≤ longest_row) × (s.factor ≤ greatest_factor) × (s.values ≤ most_values) × (longest_header ≤ length out.old) }
     ensures put { Put 0 (header s.samples s.factor s.values) out.old out.new result }
@@ -23,6 +24,7 @@ pub(crate) fn put_header(s: Sizes, out: &mut [u8]) -> usize
 }
 
 // The line of one value.
+#[tactic(auto, using(crate::proofs::LineFields::samples_short, crate::proofs::LineFields::factor_short, crate::proofs::LineFields::value_short))]
 fn put_line(p: Position, v: i32, out: &mut [u8], at: usize) -> usize
     requires { (p.k < longest_row) × (p.j < greatest_factor) × (at + longest_line ≤ length out.old) }
     ensures put { Put at (value_line (placed p) v) out.old out.new result }
@@ -34,6 +36,7 @@ fn put_line(p: Position, v: i32, out: &mut [u8], at: usize) -> usize
 }
 
 // The position after one.
+#[tactic(auto, using(crate::proofs::ValueLines::position_next))]
 fn next(p: Position, m: usize) -> Position
     requires { (p.j < m) × (m ≤ greatest_factor) × (p.k < longest_row) }
     ensures { placed result ≡ zoom_position m (p.k * m + p.j + 1) }
@@ -57,11 +60,9 @@ pub(crate) fn put_lines(values: &[i32], from: usize, to: usize, m: usize, out: &
         k: from / m,
         j: from % m,
     };
-    let mut i = from;
-    while i < to {
-        end = put_line(p, values[i], out, end);
+    for v in &values[from..to] {
+        end = put_line(p, *v, out, end);
         p = next(p, m);
-        i += 1;
     }
     end
 }

@@ -6,11 +6,12 @@ use mathlib.Core.Path.{◌≡◌, refl, sym, ap, ap₂, ◌∙◌}
 use Prim.Native.Nat.{ℕ, suc, ◌+◌, ◌-◌, ◌≤◌, ◌<◌}
 use native.Mathlib.Numerals.{add-one}
 use native.Mathlib.Omega.{arith}
+use borrow.Author.Rules.{part_to_end}
 use lib.Dec.{eqb}
 use lib.IntN.{ℤ}
-use lib.ListN.{length, take, drop, set, get_or, length-append, length-drop, drop_of_length-le}
+use lib.ListN.{length, take, drop, set, get_or, length-append, length-drop}
 use lib.NonEmpty.{one, ◌∷⁺◌}
-use lib.Seq.{take-nil, drop-drop}
+use lib.Seq.{take-nil}
 use Rattle.readtext.specs.Places.{index_of, index_after}
 use Rattle.readtext.specs.Numbers.{line_number, longer, lines, and_then, line_numbers, numbers}
 use Rattle.readtext.specs.Readings.{Holds}
@@ -51,42 +52,28 @@ abbrev pub prepended : List ℤ → Option (List ℤ) → Option (List ℤ)
 prepended zs none = none
 prepended zs (some rest) = some (zs ++ rest)
 
-nothing_before : (o : Option (List ℤ)) → o ≡ prepended [] o
-nothing_before none = refl
-nothing_before (some rest) = refl
-
 one_more : (zs : List ℤ) (z : ℤ) (o : Option (List ℤ)) → prepended zs (and_then (some z) o) ≡ prepended (zs ++ (z ∷ [])) o
 one_more zs z none = refl
 one_more zs z (some rest) = ap some (sym (append_assoc zs (z ∷ []) rest))
 
--- ---- a text that is read to a place, and as many of its numbers as a buffer holds
-pub record Progress (text : List ℕ) (buffer : List ℤ) (from count : ℕ) : Type 0 where
+-- ---- a text of which a rest is still to read, and as many of the numbers before it as a buffer holds
+pub record Progress (text : List ℕ) (buffer : List ℤ) (rest : List ℕ) (count : ℕ) : Type 0 where
   pub read : List ℤ
-  pub inside : from ≤ length text
-  pub few : count ≤ from
+  pub few : count + length rest ≤ length text
   pub counted : length read ≡ count
   pub begin : take (length buffer) read ≡ take count buffer
-  pub all : numbers text ≡ prepended read (numbers (drop from text))
-
-pub progress_none : (text : List ℕ) (buffer : List ℤ) → Progress text buffer 0 0
-progress_none text buffer = record {
-  read = [];
-  inside = omega arith;
-  few = omega arith;
-  counted = refl;
-  begin = take-nil (length buffer);
-  all = nothing_before (numbers text);
-}
+  pub all : numbers text ≡ prepended read (numbers rest)
 
 -- at the text's end
-pub progress_all : {text : List ℕ} {buffer : List ℤ} {from count : ℕ} → Progress text buffer from count → length text ≤ from
+pub progress_all : {text : List ℕ} {buffer : List ℤ} (rest : List ℕ) {count : ℕ} → Progress text buffer rest count → length rest ≡ 0
     → Holds text buffer count
 unfolding numbers lines
-progress_all {text} {buffer} {from} {count} p h = record {
+progress_all [] {count} p h = record {
   all = p.read;
-  legal = p.all ∙ ap (λ t. prepended p.read (numbers t)) (drop_of_length-le text h) ∙ ap some (append-nil p.read);
+  legal = p.all ∙ ap some (append-nil p.read);
   begun = record { count = p.counted; begin = p.begin };
 }
+progress_all (b ∷ bs) {count} p h = absurd (omega arith)
 
 -- one number more, which a full buffer does not hold
 one_kept : (buffer read : List ℤ) (z : ℤ) → take (length buffer) read ≡ take (length read) buffer →
@@ -95,40 +82,31 @@ one_kept [] read z e = sym (take-nil (suc (length read)))
 one_kept (b ∷ bs) [] z e = ap (λ l. z ∷ l) (take-nil (length bs))
 one_kept (b ∷ bs) (r ∷ rs) z e = ap₂ (λ x l. x ∷ l) (ap (λ l. get_or l 0 z) e) (one_kept bs rs z (ap (drop 1) e))
 
--- where the line from a place ends: before its line feed or at the text's end
-module _ {text : List ℕ} {buffer : List ℤ} {from count end : ℕ} (p : Progress text buffer from count) (more : from < length text)
-    (ends : end ≡ from + index_of 10 (drop from text)) where
+-- where the first line of the rest ends: before its line feed or at the text's end
+module _ {text : List ℕ} {buffer : List ℤ} {rest : List ℕ} {count : ℕ} (p : Progress text buffer rest count) where
   -- the last line has no line feed
-  pub progress_cut : end ≡ length text → numbers text ≡ none
-  progress_cut h =
-      let d = length-drop from text in
-      p.all ∙ ap (prepended p.read) (numbers_last (drop from text) (omega arith) (omega (arith, ends)))
+  pub progress_cut : 0 < length rest → index_of 10 rest ≡ length rest → numbers text ≡ none
+  progress_cut more e = p.all ∙ ap (prepended p.read) (numbers_last rest more e)
 
-  module _ (h : end < length text) where
-    abbrev line : List ℕ
-    line = take (end - from) (drop from text)
-
+  module _ {end : ℕ} (ends : end ≡ index_of 10 rest) (h : end < length rest) where
     abbrev others : Option (List ℤ)
-    others = numbers (drop (end + 1) text)
+    others = numbers (drop (end + 1) rest)
 
-    from_here : numbers (drop from text) ≡ and_then (line_number line) others
-    from_here =
-        let k : index_of 10 (drop from text) ≡ end - from = omega (arith, ends) in
-        let s : from + suc (end - from) ≡ end + 1 = omega (arith, ends) in
-        (rw (k, drop-drop, s) at (numbers_more (drop from text) (omega (arith, ends, length-drop from text))))
+    by_line : (o : Option ℤ) → o ≡ line_number (take end rest) → numbers text ≡ prepended p.read (and_then o others)
+    by_line o l =
+        let here : numbers rest ≡ and_then (line_number (take end rest)) others = rw (add-one, ends) (numbers_more rest (rw ends at h)) in
+        p.all ∙ ap (prepended p.read) (here ∙ ap (λ n. and_then n others) (sym l))
 
-    by_line : (o : Option ℤ) → o ≡ line_number line → numbers text ≡ prepended p.read (and_then o others)
-    by_line o l = p.all ∙ ap (prepended p.read) (from_here ∙ ap (λ n. and_then n others) (sym l))
-
-    pub progress_illegal : none ≡ line_number line → numbers text ≡ none
+    pub progress_illegal : none ≡ line_number (take end rest) → numbers text ≡ none
     progress_illegal l = by_line none l
 
-    pub progress_more : (z : ℤ) → some z ≡ line_number line → Progress text (set buffer count z) (end + 1) (count + 1)
-    progress_more z l = record {
-      read = p.read ++ (z ∷ []);
-      inside = omega arith;
-      few = omega (arith, ends, p.few);
-      counted = omega (arith, length-append p.read (z ∷ []), p.counted);
-      begin = rw (add-one, sym p.counted) (one_kept buffer p.read z (rw p.counted p.begin));
-      all = by_line (some z) l ∙ one_more p.read z others;
-    }
+    pub progress_more : (z : ℤ) → some z ≡ line_number (take end rest) → Progress text (set buffer count z) (take (length rest - (end + 1)) (drop (end + 1) rest)) (count + 1)
+    progress_more z l =
+        rw (part_to_end rest (end + 1))
+        (record {
+          read = p.read ++ (z ∷ []);
+          few = simp length-drop (omega (arith, p.few));
+          counted = omega (arith, length-append p.read (z ∷ []), p.counted);
+          begin = rw (add-one, sym p.counted) (one_kept buffer p.read z (rw p.counted p.begin));
+          all = by_line (some z) l ∙ one_more p.read z others;
+        })

@@ -1,34 +1,17 @@
 // The numbers of a text, a line each.
-ghost use Rattle.std.specs.Prelude.{◌≡◌, ◌+◌, ◌≤◌, length, drop, set};
-ghost use Rattle.readtext.specs.Places.{index_of};
+ghost use Rattle.std.specs.Prelude.{◌≡◌, ◌==◌, position, set};
 ghost use Rattle.readtext.specs.Readings.{Reads};
 
-use crate::line::{Number, line_number};
+use crate::line::line_number;
 
-// What a text means: so many numbers, or nothing.
-#[derive(Clone, Copy)]
-pub enum Numbers {
-    Count(usize),
-    Illegal,
-}
-
-// The first place of a byte, from a place of the text on. If it has none there, the text's length.
-fn find(text: &[u8], from: usize, byte: u8) -> usize
-    requires { from ≤ length text.now }
-    ensures place { result ≡ from + index_of byte (drop from text.now) }
-    ensures within { result ≤ length text.now }
+// The first place of a byte in a text.
+fn find(text: &[u8], byte: u8) -> Option<usize>
+    ensures { result ≡ position (λ b. b == byte) text.now }
 {
-    let mut at = from;
-    while at < text.len() {
-        if text[at] == byte {
-            return at;
-        }
-        at += 1;
-    }
-    at
+    text.iter().position(|b| *b == byte)
 }
 
-// Puts a number at a place of the buffer, if it has that place.
+// Puts a number at a place of the buffer, if it has that place. By its index: after a write through `get_mut` a proof knows no element.
 fn keep(buffer: &mut [i16], at: usize, z: i16)
     ensures { buffer.new ≡ set buffer.old at z }
 {
@@ -37,24 +20,18 @@ fn keep(buffer: &mut [i16], at: usize, z: i16)
     }
 }
 
-// The count of a text's numbers, of which as many as the buffer holds are put at its start.
-pub fn read_numbers(text: &[u8], buffer: &mut [i16]) -> Numbers
+// The count of a text's numbers, of which as many as the buffer holds are put at its start. Nothing is answered of a text that is not legal.
+pub fn read_numbers(text: &[u8], buffer: &mut [i16]) -> Option<usize>
     ensures { Reads text.now buffer.new result }
 {
-    let mut from = 0;
+    let mut rest = text;
     let mut count = 0;
-    while from < text.len() {
-        let end = find(text, from, b'\n');
-        if end == text.len() {
-            return Numbers::Illegal;
-        }
-        let number = line_number(&text[from..end]);
-        let Number::Is(z) = number else {
-            return Numbers::Illegal;
-        };
-        keep(buffer, count, z);
+    while !rest.is_empty() {
+        let end = find(rest, b'\n')?;
+        let number = line_number(&rest[..end])?;
+        keep(buffer, count, number);
         count += 1;
-        from = end + 1;
+        rest = &rest[end + 1..];
     }
-    Numbers::Count(count)
+    Some(count)
 }

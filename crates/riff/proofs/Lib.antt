@@ -1,4 +1,3 @@
 -- The laws from which the functions of `riff` are proved.
-pub mod Places
+pub mod Names
 pub mod Walking
-pub mod Finding

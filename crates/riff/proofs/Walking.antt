@@ -1,65 +1,92 @@
--- The walk from chunk to chunk, by the place that it has come to and that of the first "fmt " chunk. Assumes nothing.
+-- The walk from chunk to chunk, by the bytes that are left and the body of the first "fmt " chunk. Assumes nothing.
 use mathlib.Core.Bool.{true, false}
 use mathlib.Core.List.{List}
 use mathlib.Core.Option.{none, some}
 use mathlib.Core.Path.{◌≡◌, refl, sym, ap, ap₂, ◌∙◌}
-use Prim.Native.Nat.{ℕ, ◌+◌, ◌%◌, ◌≤◌}
+use Prim.Native.Nat.{ℕ, ◌+◌, ◌≤◌, ◌<◌}
 use native.Mathlib.Omega.{arith}
-use lib.ListN.{length, drop, drop_of_length-le}
+use borrow.Author.Tests.{leb-true}
+use lib.ListN.{length, drop, length-drop, drop_of_length-le}
 use lib.Seq.{drop-drop}
-use Rattle.wavefile.specs.Bytes.{part, data_name}
-use Rattle.wavefile.specs.Chunks.{named, size, padded, whole, kept, walk, found}
+use Rattle.std.specs.Prelude.{Option, Some, None}
+use Rattle.std.specs.Option.{option_or}
+use Rattle.std.specs.Borrow.{Bor}
+use Rattle.wavefile.specs.Bytes.{data_name, format_name}
+use Rattle.wavefile.specs.Chunks.{named, size, body, padded, whole, kept, walk, found}
 use Rattle.wavefile.proofs.Walks.{walk_cut, walk_data, walk_on}
-use Rattle.riff.specs.Places.{format_at, WholeChunk, WholeFormat, WalkedTo}
-use Rattle.riff.proofs.Places.{body_at, chunk_inside}
+use Rattle.riff.specs.declared.chunks.Chunk.{Chunk}
+use Rattle.riff.specs.Places.{BeginsWith, format_read, WholeChunk, WholeFormat, WalkedTo}
 
--- all chunks are those from a place on, with the format at another
-pub record Walking (l : List ℕ) (at format : ℕ) : Type 0 where
-  pub begun : 12 ≤ at
-  pub rest : found l ≡ walk (format_at l format) 0 (drop at l)
+-- all chunks are those that the rest has, with the format kept so far
+pub record Walking (l rest : List ℕ) (format : Option (Bor (List ℕ))) : Type 0 where
+  pub at : ℕ
+  pub inside : at ≤ length l
+  pub left : rest ≡ drop at l
+  pub to_come : found l ≡ walk (format_read format) 0 rest
   pub kept_format : WholeFormat l format
 
-pub walking_start : (l : List ℕ) → Walking l 12 0
+pub walking_start : (l rest : List ℕ) → 12 ≤ length l → rest ≡ drop 12 l → Walking l rest None
 unfolding found
-walking_start l = record { begun = omega arith; rest = refl; kept_format = tt }
+walking_start l rest h e = record { at = 12; inside = h; left = e; to_come = ap (walk none 0) (sym e); kept_format = tt }
 
-module _ {l : List ℕ} {at format : ℕ} (w : Walking l at format) where
-  -- at a chunk that is not whole, or at the end, there is no "data"
-  pub walking_cut : whole (drop at l) ≡ false → found l ≡ none
-  walking_cut e = w.rest ∙ walk_cut (format_at l format) (drop at l) e
+module _ {l rest : List ℕ} {format : Option (Bor (List ℕ))} (w : Walking l rest format) where
+  -- where no whole chunk begins there is no "data"
+  pub walking_cut : whole rest ≡ false → found l ≡ none
+  walking_cut e = w.to_come ∙ walk_cut (format_read format) rest e
 
-  pub walking_end : length l ≤ at → found l ≡ none
-  walking_end h = walking_cut (rw (drop_of_length-le l h))
+  -- at a whole chunk
+  module _ {c : Chunk} (s : BeginsWith rest c) where
+    pub walking_whole : WholeChunk l c.body.now
+    walking_whole =
+        record {
+          at = w.at;
+          inside = omega (arith, w.inside, length-drop w.at l, leb-true (8 + padded (size rest)) (length rest) s.whole_chunk, ap length w.left, ap size w.left);
+          here = s.whole_body ∙ ap body w.left;
+        }
 
-  -- at a whole chunk of n bytes
-  module _ {n : ℕ} (s : (whole (drop at l) ≡ true) × (size (drop at l) ≡ n)) where
-    pub walking_whole : WholeChunk l at
-    walking_whole = chunk_inside at l s.0
-
-    pub walking_data : named data_name (drop at l) ≡ true → WalkedTo l format (at + 8) n
-    walking_data d =
+    pub walked_data : named data_name rest ≡ true → WalkedTo l (record { format = format; content = c.body })
+    walked_data d =
         record {
           chunks =
-              w.rest ∙ walk_data (format_at l format) (drop at l) s.0 d
-              ∙ ap (λ b. some (record { format = format_at l format; content = b })) (body_at at l ∙ ap (λ k. part (at + 8) k l) s.1);
+              w.to_come ∙ walk_data (format_read format) rest s.whole_chunk d
+              ∙ ap (λ b. some (record { format = format_read format; content = b })) (sym s.whole_body);
           kept = w.kept_format;
-          inside = omega (arith, walking_whole.inside, s.1);
+          inside = walking_whole;
         }
 
-    -- where the next one begins
-    next_at : at + (8 + padded (size (drop at l))) ≡ at + (8 + n + n % 2)
-    next_at = ap (λ i. at + (8 + padded i)) s.1 ∙ omega arith
-
-    pub walking_next : at + (8 + n + n % 2) ≤ length l
-    walking_next = omega (arith, next_at, walking_whole.inside)
-
-    pub walking_on : {next : ℕ} → named data_name (drop at l) ≡ false → format_at l next ≡ kept (format_at l format) (drop at l) → WholeFormat l next
-        → Walking l (at + (8 + n + n % 2)) next
+    pub walking_on : {next : Option (Bor (List ℕ))} → named data_name rest ≡ false → format_read next ≡ kept (format_read format) rest → WholeFormat l next
+        → Walking l c.rest.now next
     walking_on d k f =
         record {
-          begun = omega (arith, w.begun);
-          rest =
-              w.rest ∙ walk_on (format_at l format) (drop at l) s.0 d
-              ∙ ap₂ (λ f r. walk f 0 r) (sym k) (drop-drop (8 + padded (size (drop at l))) at l ∙ ap (λ i. drop i l) next_at);
+          at = w.at + (8 + padded (size rest));
+          inside = omega (arith, w.inside, length-drop w.at l, leb-true (8 + padded (size rest)) (length rest) s.whole_chunk, ap length w.left);
+          left = s.followed ∙ ap (drop (8 + padded (size rest))) w.left ∙ drop-drop (8 + padded (size rest)) w.at l;
+          to_come =
+              w.to_come ∙ walk_on (format_read format) rest s.whole_chunk d
+              ∙ ap₂ (λ f r. walk f 0 r) (sym k) (sym s.followed);
           kept_format = f;
         }
+
+    -- the first "fmt " chunk is kept
+    kept_cases : (format : Option (Bor (List ℕ))) → named format_name rest ≡ true → format_read (option_or format (Some c.body)) ≡ kept (format_read format) rest
+    kept_cases None n = rw (n, s.whole_body)
+    kept_cases (Some f) n = refl
+
+    whole_cases : (format : Option (Bor (List ℕ))) → WholeFormat l format → WholeFormat l (option_or format (Some c.body))
+    whole_cases None k = walking_whole
+    whole_cases (Some f) k = k
+
+    other_cases : (format : Option (Bor (List ℕ))) → named format_name rest ≡ false → format_read format ≡ kept (format_read format) rest
+    other_cases None n = rw n
+    other_cases (Some f) n = refl
+
+    pub walking_format : named data_name rest ≡ false → named format_name rest ≡ true → {next : Option (Bor (List ℕ))} → next ≡ option_or format (Some c.body) → Walking l c.rest.now next
+    walking_format d n e = rw e (walking_on d (kept_cases format n) (whole_cases format w.kept_format))
+
+    pub walking_other : named data_name rest ≡ false → named format_name rest ≡ false → Walking l c.rest.now format
+    walking_other d n = walking_on d (other_cases format n) w.kept_format
+
+-- a file that ends before its first chunk has none
+pub no_chunks : (l : List ℕ) → length l < 12 → found l ≡ none
+unfolding found walk
+no_chunks l h = let short : length l ≤ 12 = omega arith in rw (drop_of_length-le l short) refl

@@ -1,2 +1,2 @@
--- The enums of `riff`, read as what `wavefile` defines.
+-- The structs of `riff`, read as what `wavefile` defines.
 pub mod Places

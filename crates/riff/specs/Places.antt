@@ -1,55 +1,62 @@
--- What the functions of `riff` find in a file, by places of it. Assumes nothing.
-use Rattle.std.specs.Prelude.{true, false, List, ◌≡◌, ℕ, zero, suc, ◌+◌, ◌≤◌, length, drop}
-use Rattle.std.proofs.Math.Option.{Option, none, some}
-use Rattle.wavefile.specs.Bytes.{part}
+-- What the functions of `riff` find in a file, as parts of it and by their places. Assumes nothing.
+use Rattle.std.specs.Prelude.{true, false, Option, Some, None, List, ◌≡◌, ℕ, ◌+◌, ◌≤◌, length, drop}
+use Rattle.std.specs.Borrow.{Bor}
+use Rattle.std.proofs.Math.Option as maybe
 use Rattle.wavefile.specs.Chunks.{size, body, padded, whole, found, format_of, content_of, legal}
 use Rattle.riff.specs.declared.chunks.Chunk.{Chunk}
-use Rattle.riff.specs.declared.chunks.Chunk.TheVariants.{Whole, Cut}
-use Rattle.riff.specs.declared.chunks.Places.{Places}
-use Rattle.riff.specs.declared.chunks.Places.TheVariants.{Chunks, Nothing}
+use Rattle.riff.specs.declared.chunks.Found.{Found}
+use Rattle.riff.specs.declared.chunks.Chunks.{Chunks}
 
--- the chunk that bytes begin with is whole and of this size, or it is not whole
-abbrev pub Begins : List ℕ → Chunk → Type 0
-Begins bytes (Whole n) = (whole bytes ≡ true) × (size bytes ≡ n)
-Begins bytes Cut = whole bytes ≡ false
+-- the chunk that bytes begin with is whole and has this body, and these bytes follow it; or it is not whole
+pub record BeginsWith (bytes : List ℕ) (c : Chunk) : Type 0 where
+  pub whole_chunk : whole bytes ≡ true
+  pub whole_body : c.body.now ≡ body bytes
+  pub sized : size bytes ≡ length c.body.now
+  pub followed : c.rest.now ≡ drop (8 + padded (size bytes)) bytes
 
--- the body of the "fmt " chunk at a place; none at 0, where the header stands
-abbrev pub format_at : List ℕ → ℕ → Option (List ℕ)
-format_at bytes zero = none
-format_at bytes (suc at) = some (body (drop (suc at) bytes))
+abbrev pub Begins : List ℕ → Option Chunk → Type 0
+Begins bytes (Some c) = BeginsWith bytes c
+Begins bytes None = whole bytes ≡ false
 
--- a whole chunk at a place
-pub record WholeChunk (bytes : List ℕ) (at : ℕ) : Type 0 where
+-- a part of the file, or none
+abbrev pub format_read : Option (Bor (List ℕ)) → maybe.Option (List ℕ)
+format_read (Some format) = maybe.some format.now
+format_read None = maybe.none
+
+-- bytes that are the body of a whole chunk at a place
+pub record WholeChunk (bytes content : List ℕ) : Type 0 where
+  pub at : ℕ
   pub inside : at + (8 + padded (size (drop at bytes))) ≤ length bytes
+  pub here : content ≡ body (drop at bytes)
 
--- and the same of the place of a format, where there is one
-abbrev pub WholeFormat : List ℕ → ℕ → Type 0
-WholeFormat bytes zero = Unit
-WholeFormat bytes (suc at) = WholeChunk bytes (suc at)
+-- and the same of a format, where there is one
+abbrev pub WholeFormat : List ℕ → Option (Bor (List ℕ)) → Type 0
+WholeFormat bytes None = Unit
+WholeFormat bytes (Some format) = WholeChunk bytes format.now
 
--- ---- the walk: where the first "data" chunk is and the first "fmt " before it
-pub record WalkedTo (bytes : List ℕ) (format content n : ℕ) : Type 0 where
-  pub chunks : found bytes ≡ some (record { format = format_at bytes format; content = part content n bytes })
-  pub kept : WholeFormat bytes format
-  pub inside : content + n ≤ length bytes
+-- ---- the walk: the first "data" chunk and the first "fmt " before it
+pub record WalkedTo (bytes : List ℕ) (f : Found) : Type 0 where
+  pub chunks : found bytes ≡ maybe.some (record { format = format_read f.format; content = f.content.now })
+  pub kept : WholeFormat bytes f.format
+  pub inside : WholeChunk bytes f.content.now
 
-abbrev pub Walked : List ℕ → Places → Type 0
-Walked bytes (Chunks format content n) = WalkedTo bytes format content n
-Walked bytes Nothing = found bytes ≡ none
+abbrev pub Walked : List ℕ → Option Found → Type 0
+Walked bytes (Some f) = WalkedTo bytes f
+Walked bytes None = found bytes ≡ maybe.none
 
--- ---- a legal file, with the places of its chunks
--- a "fmt " chunk of 16 bytes or more at a place
-pub record LongFormat (bytes : List ℕ) (at : ℕ) : Type 0 where
-  pub inside : at + 24 ≤ length bytes
-  pub long : 16 ≤ size (drop at bytes)
+-- ---- a legal file, with its chunks
+-- the body of a "fmt " chunk of 16 bytes or more
+pub record LongFormat (bytes format : List ℕ) : Type 0 where
+  pub inside : WholeChunk bytes format
+  pub long : 16 ≤ length format
 
-pub record FoundAt (bytes : List ℕ) (format content n : ℕ) : Type 0 where
+pub record FoundAt (bytes : List ℕ) (c : Chunks) : Type 0 where
   pub accepted : legal bytes ≡ true
-  pub format_chunk : format_of (found bytes) ≡ body (drop format bytes)
-  pub content_chunk : content_of (found bytes) ≡ part content n bytes
-  pub format_long : LongFormat bytes format
-  pub inside : content + n ≤ length bytes
+  pub format_chunk : format_of (found bytes) ≡ c.format.now
+  pub content_chunk : content_of (found bytes) ≡ c.content.now
+  pub format_long : LongFormat bytes c.format.now
+  pub inside : WholeChunk bytes c.content.now
 
-abbrev pub Finds : List ℕ → Places → Type 0
-Finds bytes (Chunks format content n) = FoundAt bytes format content n
-Finds bytes Nothing = legal bytes ≡ false
+abbrev pub Finds : List ℕ → Option Chunks → Type 0
+Finds bytes (Some c) = FoundAt bytes c
+Finds bytes None = legal bytes ≡ false

@@ -1,26 +1,29 @@
 // The header of a file and its chunks.
-ghost use Rattle.std.specs.Prelude.{◌≡◌, ◌≤◌, ◌<◌, length, drop};
-ghost use Rattle.wavefile.specs.Chunks.{headed, kept};
-ghost use Rattle.riff.specs.Places.{Begins, format_at, WholeChunk, WholeFormat, Walked, Finds};
+ghost use Rattle.std.specs.Prelude.{◌≡◌};
+ghost use Rattle.wavefile.specs.Chunks.{headed};
+ghost use Rattle.riff.specs.Places.{Begins, Walked, Finds};
 
 use crate::fields::{four_bytes, named};
 
-// The size of a chunk's body, if the chunk and its pad byte end within the file.
+// A chunk that ends within the file, by its body, and the bytes that follow it and its pad byte.
 #[derive(Clone, Copy)]
-pub(crate) enum Chunk {
-    Whole(usize),
-    Cut,
+pub(crate) struct Chunk<'a> {
+    body: &'a [u8],
+    rest: &'a [u8],
 }
 
-// Where a file has its chunks: the "fmt " chunk begins at `format`, the body of the "data" chunk at `content`.
+// The bodies of the first "data" chunk and of the first "fmt " chunk, if one came before.
 #[derive(Clone, Copy)]
-pub enum Places {
-    Chunks {
-        format: usize,
-        content: usize,
-        size: usize,
-    },
-    Nothing,
+pub(crate) struct Found<'a> {
+    format: Option<&'a [u8]>,
+    content: &'a [u8],
+}
+
+// The parts of a file that are read: the bodies of its "fmt " and its "data" chunk.
+#[derive(Clone, Copy)]
+pub struct Chunks<'a> {
+    pub format: &'a [u8],
+    pub content: &'a [u8],
 }
 
 // The bytes of the header, of a chunk's name and size, and the fewest of a format.
@@ -28,7 +31,7 @@ const HEADER: usize = 12;
 
 const BEFORE_BODY: usize = 8;
 
-const LEAST_FORMAT: u32 = 16;
+const LEAST_FORMAT: usize = 16;
 
 // Whether the file has both marks and its size.
 fn headed(bytes: &[u8]) -> bool
@@ -37,86 +40,72 @@ fn headed(bytes: &[u8]) -> bool
     if bytes.len() < HEADER {
         return false;
     }
-    if !named(bytes, 0, b'R', b'I', b'F', b'F') {
+    if !named(bytes, b"RIFF") {
         return false;
     }
     if four_bytes(bytes, 4) as usize != bytes.len() - 8 {
         return false;
     }
-    named(bytes, 8, b'W', b'A', b'V', b'E')
+    named(&bytes[8..], b"WAVE")
 }
 
-// The chunk at a place. No sum is made that a size could make too great.
-fn chunk_at(bytes: &[u8], at: usize) -> Chunk
-    requires { at ≤ length bytes.now }
-    ensures { Begins (drop at bytes.now) result }
+// The chunk that bytes begin with. No sum is made that a size could make too great.
+fn chunk_at_start(bytes: &[u8]) -> Option<Chunk<'_>>
+    ensures { Begins bytes.now result }
 {
-    let room = bytes.len() - at;
-    if room < BEFORE_BODY {
-        return Chunk::Cut;
+    if bytes.len() < BEFORE_BODY {
+        return None;
     }
-    let size = four_bytes(bytes, at + 4) as usize;
-    if room - BEFORE_BODY < size {
-        return Chunk::Cut;
+    let size = four_bytes(bytes, 4) as usize;
+    let room = bytes.len() - BEFORE_BODY;
+    if room < size {
+        return None;
     }
-    if room - BEFORE_BODY - size < size % 2 {
-        return Chunk::Cut;
+    if room - size < size % 2 {
+        return None;
     }
-    Chunk::Whole(size)
+    Some(Chunk {
+        body: &bytes[BEFORE_BODY..BEFORE_BODY + size],
+        rest: &bytes[BEFORE_BODY + size + size % 2..],
+    })
 }
 
-// The place of the first "fmt " chunk after the chunk at a place, from the place before. It is 0 while there is none: the header stands there.
-fn keep(bytes: &[u8], format: usize, at: usize) -> usize
-    requires { (0 < at) × WholeChunk bytes.now at × WholeFormat bytes.now format }
-    ensures result_value { format_at bytes.now result ≡ kept (format_at bytes.now format) (drop at bytes.now) }
-    ensures whole_format { WholeFormat bytes.now result }
-{
-    if !named(bytes, at, b'f', b'm', b't', b' ') {
-        return format;
-    }
-    if format == 0 { at } else { format }
-}
-
-// Goes from chunk to chunk to the first "data".
-fn walk(bytes: &[u8]) -> Places
+// Goes from chunk to chunk to the first "data". The first "fmt " is kept, later ones and other chunks are skipped.
+#[tactic(auto, using(crate::proofs::Walking::no_chunks))]
+fn walk(bytes: &[u8]) -> Option<Found<'_>>
     ensures { Walked bytes.now result }
 {
-    let mut at = HEADER;
-    let mut format = 0;
-    while at < bytes.len() {
-        let chunk = chunk_at(bytes, at);
-        let Chunk::Whole(size) = chunk else {
-            return Places::Nothing;
-        };
-        if named(bytes, at, b'd', b'a', b't', b'a') {
-            return Places::Chunks {
+    let mut format = None;
+    let mut rest = bytes.get(HEADER..)?;
+    while let Some(chunk) = chunk_at_start(rest) {
+        if named(rest, b"data") {
+            return Some(Found {
                 format,
-                content: at + BEFORE_BODY,
-                size,
-            };
+                content: chunk.body,
+            });
         }
-        format = keep(bytes, format, at);
-        at += BEFORE_BODY + size + size % 2;
+        if named(rest, b"fmt ") {
+            format = format.or(Some(chunk.body));
+        }
+        rest = chunk.rest;
     }
-    Places::Nothing
+    None
 }
 
-// Where the chunks are of a file that is not refused 11.
-pub fn find(bytes: &[u8]) -> Places
+// The chunks of a file that is not refused 11.
+pub fn find(bytes: &[u8]) -> Option<Chunks<'_>>
     ensures { Finds bytes.now result }
 {
     if !headed(bytes) {
-        return Places::Nothing;
+        return None;
     }
-    let found = walk(bytes);
-    let Places::Chunks { format, .. } = found else {
-        return Places::Nothing;
-    };
-    if format == 0 {
-        return Places::Nothing;
+    let found = walk(bytes)?;
+    let format = found.format?;
+    if format.len() < LEAST_FORMAT {
+        return None;
     }
-    if four_bytes(bytes, format + 4) < LEAST_FORMAT {
-        return Places::Nothing;
-    }
-    found
+    Some(Chunks {
+        format,
+        content: found.content,
+    })
 }

@@ -1,15 +1,14 @@
 // Numbers and names in the bytes of a file.
-ghost use Rattle.std.specs.Prelude.{[], ◌∷◌, ◌≡◌, ◌+◌, ◌≤◌, length};
-ghost use Rattle.wavefile.specs.Bytes.{number, part, same};
+ghost use Rattle.std.specs.Prelude.{◌≡◌, ◌+◌, ◌≤◌, length};
+ghost use Rattle.wavefile.specs.Bytes.{number};
+ghost use Rattle.wavefile.specs.Chunks.{named};
 
-// The number of two bytes.
+// The number of two bytes. The place stays beside the bytes here and below: both functions are public, and their promises are about places.
 pub fn two_bytes(bytes: &[u8], at: usize) -> u16
     requires { at + 2 ≤ length bytes.now }
     ensures { result ≡ number at 2 bytes.now }
 {
-    let low = bytes[at] as u16;
-    let high = bytes[at + 1] as u16;
-    low + 256 * high
+    u16::from_le_bytes([bytes[at], bytes[at + 1]])
 }
 
 // The number of four bytes.
@@ -17,16 +16,13 @@ pub fn four_bytes(bytes: &[u8], at: usize) -> u32
     requires { at + 4 ≤ length bytes.now }
     ensures { result ≡ number at 4 bytes.now }
 {
-    let low = two_bytes(bytes, at) as u32;
-    let high = two_bytes(bytes, at + 2) as u32;
-    low + 65536 * high
+    u32::from_le_bytes([bytes[at], bytes[at + 1], bytes[at + 2], bytes[at + 3]])
 }
 
-// Whether four bytes are a name, all compared at once.
-pub(crate) fn named(bytes: &[u8], at: usize, a: u8, b: u8, c: u8, d: u8) -> bool
-    requires { at + 4 ≤ length bytes.now }
-    ensures { result ≡ same (part at 4 bytes.now) (a ∷ b ∷ c ∷ d ∷ []) }
+// Whether bytes begin with a name, all four of which are compared at once.
+pub(crate) fn named(bytes: &[u8], name: &[u8; 4]) -> bool
+    requires { 4 ≤ length bytes.now }
+    ensures { result ≡ named name.now bytes.now }
 {
-    let name = a as u32 + 256 * (b as u32) + 65536 * (c as u32) + 16777216 * (d as u32);
-    four_bytes(bytes, at) == name
+    four_bytes(bytes, 0) == u32::from_le_bytes(*name)
 }

@@ -6,7 +6,7 @@ ghost use Rattle.answers.specs.Answers.{placed, valued};
 ghost use Rattle.round_trip.specs.Asked.{Asked};
 ghost use Rattle.round_trip.specs.Returns.{Returns};
 
-use spline::{Position, Valued, Written};
+use spline::{Position, Refusal};
 
 // Transforms a row, and answers its value at a position. A refused transform's answer is its refusal.
 pub fn value_of_row(
@@ -15,13 +15,11 @@ pub fn value_of_row(
     m: usize,
     coefficients: &mut [i32],
     work: &mut [i64],
-) -> Valued
+) -> Result<i32, Refusal>
     ensures { Asked samples.now coefficients.old work.old m (placed position) (valued result) }
 {
-    match spline::row::transform(samples, coefficients, work) {
-        Written::Count(n) => spline::row::value(&coefficients[..n], position, m),
-        Written::Refused(r) => Valued::Refused(r),
-    }
+    let n = spline::row::transform(samples, coefficients, work)?;
+    spline::row::value(&coefficients[..n], position, m)
 }
 
 // Transforms a row, and answers its value at sample k.
@@ -31,7 +29,7 @@ pub fn value_at_sample(
     m: usize,
     coefficients: &mut [i32],
     work: &mut [i64],
-) -> Valued
+) -> Result<i32, Refusal>
     ensures { Returns samples.now k m coefficients.old work.old (valued result) }
 {
     value_of_row(samples, Position { k, j: 0 }, m, coefficients, work)

@@ -1,5 +1,6 @@
 -- What the roundings by a unit ask. Assumes nothing.
-use Rattle.std.specs.Prelude.{◌≡◌, ℕ, zero, suc, ◌+◌, ◌*◌, ◌%◌, ◌≤◌, ◌<◌, ◌^◌, ℤ, pos, nat_abs, ◌<ℤ◌}
+use Rattle.std.specs.Prelude.{◌≡◌, ℕ, ◌+◌, ◌*◌, ◌%◌, ◌≤◌, ◌<◌, ◌^◌, ℤ, pos, nat_abs, ◌<ℤ◌, Option, Some, None}
+use Rattle.rounding.specs.declared.Divisor.{Divisor}
 
 -- an even divisor and a unit, of which 2^31 are at least 2^27 + 1 divisors
 pub record Counted (d unit : ℕ) : Type 0 where
@@ -13,13 +14,17 @@ pub record RoundableEven (a : ℤ) (d unit : ℕ) : Type 0 where
   pub counted : Counted d unit
   pub size : nat_abs a ≤ 2 ^ 27 * d
 
--- a divisor with its unit; a unit of 0 is none, and the divisor then at most 2^20
-abbrev pub Unit : ℕ → ℕ → Type 0
-Unit d zero = d ≤ 2 ^ 20
-Unit d (suc u) = Counted d (suc u)
+-- a divisor with its unit; where it has none it is at most 2^20
+abbrev pub Unit : ℕ → Option ℕ → Type 0
+Unit d None = d ≤ 2 ^ 20
+Unit d (Some u) = Counted d u
 
--- what `round_by` asks: a divisor above 0, its unit, and a number at most 2^27 divisors from 0
-pub record Roundable (a d : ℤ) (u : ℕ) : Type 0 where
-  pub above : pos 0 <ℤ d
-  pub unit : Unit (nat_abs d) u
-  pub size : nat_abs a ≤ 2 ^ 27 * nat_abs d
+-- a divisor above 0, with its unit if it has one
+pub record Dividing (d : Divisor) : Type 0 where
+  pub above : pos 0 <ℤ d.by
+  pub unit : Unit (nat_abs d.by) d.unit
+
+-- what `Divisor::round` asks: such a divisor, and a number at most 2^27 divisors from 0
+pub record Roundable (a : ℤ) (d : Divisor) : Type 0 where
+  pub divisor : Dividing d
+  pub size : nat_abs a ≤ 2 ^ 27 * nat_abs d.by

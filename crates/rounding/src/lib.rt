@@ -3,7 +3,7 @@
 #![tactic(auto)]
 
 ghost use Rattle.std.specs.Prelude.{◌≡◌, ◌+◌, ◌*◌, ◌/◌, ◌≤◌, ◌<◌, ◌^◌, pos, nat_abs, ◌<ℤ◌};
-ghost use Rattle.integers.specs.Division.{floor, modulo};
+ghost use Rattle.integers.specs.Division.{floor};
 ghost use Rattle.integers.specs.Rounding.{round};
 ghost use Rattle.rounding.specs.Half.{half};
 ghost use Rattle.rounding.specs.Roundable.{Roundable, RoundableEven};
@@ -17,22 +17,14 @@ const LIMIT: u64 = 2147483648;
 // 2^33 + 1, a multiple of 3 and of 9.
 const MULTIPLE: u64 = 8589934593;
 
-// a modulo d, from 0 up, for d above 0. The machine's `%` has the sign of a, so a negative remainder takes d more.
-fn modulo(a: i64, d: i64) -> i64
-    requires { pos 0 <ℤ d }
-    ensures { result ≡ pos (modulo a (nat_abs d)) }
-{
-    let r = a % d;
-    if r < 0 { r + d } else { r }
-}
-
-// a / d rounded down, for d above 0: what is left without the remainder is divided exactly. Where d is a constant power of two this compiles
-// to one arithmetic shift, also where other callers have other divisors.
+// a / d rounded down, for d above 0: what is left without the remainder from 0 up is divided exactly. Where d is a constant power of two this compiles
+// to one arithmetic shift, also where other callers have other divisors. `div_euclid` does not there, and with it a row transform takes 1.2 times as
+// long.
 fn floor_div(a: i64, d: i64) -> i64
     requires { (pos 0 <ℤ d) × (nat_abs a + nat_abs d ≤ 2 ^ 63) }
     ensures { result ≡ floor a (nat_abs d) }
 {
-    (a - modulo(a, d)) / d
+    (a - a.rem_euclid(d)) / d
 }
 
 // What is added to a before its quotient by d is rounded down: half of d, and if a is negative, what half of d leaves of d - 1, which for an even d
@@ -112,13 +104,24 @@ fn round_even(a: i64, d: u64, unit: u64) -> i32
     (quotient(sum, d, unit) as i64 - times as i64) as i32
 }
 
-// The same by a unit: as `round_even` does it, or as `round_small` where the unit is 0, which is none.
-pub fn round_by(a: i64, d: i64, unit: u64) -> i32
-    requires { Roundable a d unit }
-    ensures { result ≡ round a (nat_abs d) }
-{
-    if unit == 0 {
-        return round_small(a, d);
+// A number to divide by, and a unit for it where `round_even` is to divide. Row zoom has none: with `round_even` its loop was slower at half of the
+// factors.
+#[derive(Clone, Copy)]
+pub struct Divisor {
+    pub by: i64,
+    pub unit: Option<u64>,
+}
+
+impl Divisor {
+    // a by the divisor, rounded to the nearest whole number. It is inlined, so that where the divisor is a constant the choice and the divisions are too.
+    #[inline(always)]
+    pub fn round(self, a: i64) -> i32
+        requires { Roundable a self }
+        ensures { result ≡ round a (nat_abs self.by) }
+    {
+        match self.unit {
+            None => round_small(a, self.by),
+            Some(unit) => round_even(a, self.by as u64, unit),
+        }
     }
-    round_even(a, d as u64, unit)
 }

@@ -11,6 +11,7 @@ use lib.Dec.{leb, ltb}
 use lib.IntN.{ℤ}
 use lib.ListN.{length, take, drop}
 use lib.Seq.{take_all}
+use Rattle.std.proofs.Common.{Result}
 use Rattle.integers.proofs.Choices.{either}
 use Rattle.bspline.specs.Limits.{longest_row, greatest_factor, most_values}
 use Rattle.bspline.specs.Refusals.{outside, refusal_1, refusal_2, refusal_7}
@@ -19,12 +20,13 @@ use Rattle.bspline.specs.Values.{zoom_count, zoom_values}
 use Rattle.bspline.proofs.Refusals.{one_to, judged_cases}
 use Rattle.bspline.proofs.Transforms.{row_length}
 use Rattle.bspline.proofs.Zoom.{count_inside, zoom_length}
+use Rattle.answers.specs.declared.Refusal.{Refusal}
 use Rattle.decimal.proofs.Buffers.{put_start_fits}
 use Rattle.readtext.specs.Numbers.{numbers}
 use Rattle.judgetext.specs.Answers.{found}
 use Rattle.judgetext.specs.Limits.{longest_text}
 use Rattle.judgetext.specs.Outcomes.{Outcome, row, refused, factor_of, zoom_samples, zoom_numbers, zoom_text}
-use Rattle.judgetext.specs.declared.Zoomed.{Zoomed}
+use Rattle.judgetext.specs.declared.Sizes.{Sizes}
 use Rattle.printtext.specs.Output.{header, value_lines, refusal_line, printed, output, block, lines_of_part, most_parts, part, parts}
 use Rattle.printtext.specs.Printing.{held, Printed, print_part}
 use Rattle.printtext.proofs.ValueLines.{lines_split}
@@ -93,7 +95,7 @@ unfolding output
 parts_output t = parts_printed (zoom_text t) (text_fitting t)
 
 -- what is printed of a part stands within the buffer
-pub printed_fits : (z : Zoomed) (values : List ℤ) (b : ℕ) (buffer : List ℕ) → (print_part z values b buffer).bytes ≤ length (print_part z values b buffer).out
+pub printed_fits : (z : Result Sizes Refusal) (values : List ℤ) (b : ℕ) (buffer : List ℕ) → (print_part z values b buffer).bytes ≤ length (print_part z values b buffer).out
 unfolding print_part
 printed_fits z values b buffer =
     either (λ (p : Printed). p.bytes ≤ length p.out) (held z values && leb block (length buffer))

@@ -6,5 +6,6 @@
 pub mod input;
 pub mod output;
 
+pub use answers::Refusal;
 pub use answers::limits::MOST_VALUES;
-pub use judgetext::{LONGEST_TEXT, Sizes, Zoomed};
+pub use judgetext::{LONGEST_TEXT, Sizes};

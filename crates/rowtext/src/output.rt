@@ -1,2 +1,2 @@
 // Values to bytes, part by part.
-pub use printtext::parts::{BLOCK, more_parts, print_part};
+pub use printtext::parts::{BLOCK, PARTS, more_parts, print_part};

@@ -5,38 +5,27 @@
 ghost use Rattle.std.specs.Prelude.{◌≤◌, length, IfOk};
 
 use rowtext::input::{judge_text, text_room, value_room, zoom_text};
-use rowtext::output::{more_parts, print_part};
-use rowtext::{LONGEST_TEXT, Zoomed};
+use rowtext::output::{PARTS, print_part};
+use rowtext::{LONGEST_TEXT, Refusal, Sizes};
 use std::io;
 use std::io::{Print, Read};
 
-fn write_part<P: Print>(
-    rt: &P,
-    zoomed: Zoomed,
-    values: &[i32],
-    part: usize,
-    block: &mut [u8],
-) -> io::Result<()> {
-    let count = print_part(zoomed, values, part, block);
-    Print::write_all(rt, &block[..count])
-}
-
+// Writes every part of what is printed. The last of them are empty where there are fewer lines.
 fn write_output<P: Print>(
     rt: &P,
-    zoomed: Zoomed,
+    zoomed: Result<Sizes, Refusal>,
     values: &[i32],
     block: &mut [u8],
 ) -> io::Result<()> {
-    let mut part = 0;
-    while more_parts(part) {
-        write_part(rt, zoomed, values, part, block)?;
-        part += 1;
+    for part in 0..PARTS {
+        let count = print_part(zoomed, values, part, block);
+        Print::write_all(rt, &block[..count])?;
     }
     Ok(())
 }
 
-// Lists the values of a text that stands at the start of the array and writes what is printed of it. Once the text has been read, the array serves for
-// each part of the output.
+// Lists the values of a text that stands at the start of the array and writes what is printed of it. The array and not just the text is lent, since it
+// serves for each part of the output once the text has been read.
 fn write_values<P: Print>(rt: &P, bytes: &mut [u8], n: usize) -> io::Result<()>
     requires { n ≤ length bytes.old }
 {
@@ -45,7 +34,8 @@ fn write_values<P: Print>(rt: &P, bytes: &mut [u8], n: usize) -> io::Result<()>
     write_output(rt, zoomed, &values, bytes)
 }
 
-// Reads until the array is full or the input ends, and answers how many bytes it put at the array's start.
+// Reads until the array is full or the input ends, and answers how many bytes it put at the array's start. A loop over `read`: std's `read_to_end` puts
+// bytes into a `Vec`, and the project has no heap; its `read_exact` does not say how many bytes there were before the end.
 fn read_full<R: Read>(input: &mut R, bytes: &mut [u8]) -> io::Result<usize>
     ensures { IfOk result (λ n. n ≤ length bytes.new) }
 {
@@ -67,9 +57,8 @@ fn main(rt: HostRuntime) -> io::Result<()> {
     if LONGEST_TEXT < n {
         return write_values(&rt, &mut bytes, n);
     }
-    let judged = judge_text(&bytes[..n]);
-    match judged {
-        Zoomed::Row(_) => write_values(&rt, &mut bytes, n),
-        Zoomed::Refused(_) => write_output(&rt, judged, &[0; 1], &mut bytes),
+    match judge_text(&bytes[..n]) {
+        Ok(_) => write_values(&rt, &mut bytes, n),
+        Err(refusal) => write_output(&rt, Err(refusal), &[], &mut bytes),
     }
 }

@@ -2,3 +2,4 @@
 pub mod Divisors
 pub mod PictureSums
 pub mod Sixteenths
+pub mod Supports

@@ -1,3 +1,2 @@
 -- What the contracts of weighted sums cite beside the definitions of `bspline`.
-pub mod Weights
 pub mod Sums

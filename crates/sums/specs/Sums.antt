@@ -1,12 +1,12 @@
--- Four numbers of a weighted sum as the list that the definitions have, and what the code of such sums asks. Assumes nothing.
-use Rattle.std.specs.Prelude.{List, [], ◌∷◌, ◌≡◌, ℕ, ◌+◌, ◌*◌, ◌^◌, ◌≤◌, ◌<◌, ℤ, length}
+-- Four numbers or weights of a weighted sum as the list that the definitions have, and what the code of such sums asks. Assumes nothing.
+use Rattle.std.specs.Prelude.{List, [], ◌∷◌, ◌≡◌, ℕ, ◌*◌, ◌^◌, ◌≤◌, ◌<◌, ℤ, length}
 use Rattle.bspline.specs.Bounds.{AllWithin, sizes}
-use Rattle.bspline.specs.Limits.{longest_row, longest_side}
+use Rattle.bspline.specs.Limits.{longest_side}
 use Rattle.bspline.specs.PictureLayout.{Shape, area, pixel}
 use Rattle.bspline.specs.Values.{dot, support}
-use Rattle.sums.specs.declared.rows.Four.{Four}
+use Rattle.sums.specs.declared.four.Four.{Four}
 
-abbrev pub listed : Four → List ℤ
+abbrev pub listed : Four ℤ → List ℤ
 listed f = f.before ∷ f.here ∷ f.after ∷ f.beyond ∷ []
 
 -- the greatest size of a weighted sum of 32-bit numbers: 24,576 is the weights' total at factor 16
@@ -17,12 +17,6 @@ greatest_sum = 24576 * 2 ^ 31
 pub record Summable (w c : List ℤ) : Type 0 where
   pub light : sizes w ≤ 24576
   pub small : AllWithin greatest_sum c
-
--- n numbers from `from` on that lie in a buffer
-pub record Part (from n : ℕ) (c : List ℤ) : Type 0 where
-  pub some : 0 < n
-  pub short : n ≤ longest_row
-  pub inside : from + n ≤ length c
 
 -- a picture whose sides are not refused, with its coefficients, a column of it, and weights for sums along its rows
 pub record PicturePart (d : Shape) (k : ℕ) (w c : List ℤ) : Type 0 where

@@ -3,8 +3,9 @@ ghost use Rattle.std.specs.Prelude.{◌≡◌, ◌≤◌, ◌<◌};
 ghost use Rattle.bspline.specs.Limits.{greatest_factor};
 ghost use Rattle.bspline.specs.Lists.{at};
 ghost use Rattle.bspline.specs.Values.{weights};
-ghost use Rattle.sums.specs.Weights.{weighed};
+ghost use Rattle.sums.specs.Sums.{listed};
 
+use crate::four::Four;
 use crate::weights::{Weights, weights_at};
 
 // A row for each numerator over 16.
@@ -36,22 +37,18 @@ fn sixteenth(j: usize, i: usize) -> i32
 }
 
 // All four of them.
+#[tactic(auto, unfolding(bspline::specs::Values::weights))]
 fn sixteenths(j: usize) -> Weights
     requires { j < 16 }
-    ensures { weighed result ≡ weights 16 j }
+    ensures { listed result ≡ weights 16 j }
 {
-    Weights {
-        before: sixteenth(j, 0),
-        here: sixteenth(j, 1),
-        after: sixteenth(j, 2),
-        beyond: sixteenth(j, 3),
-    }
+    Four::indices(0).map(|i| sixteenth(j, i))
 }
 
 // The weights at the numerator j over m: at factor 16 those of the table, at the others those of the formula.
 pub fn weights_of(m: usize, j: usize) -> Weights
     requires { (m ≤ greatest_factor) × (j < m) }
-    ensures { weighed result ≡ weights m j }
+    ensures { listed result ≡ weights m j }
 {
     if m == 16 {
         return sixteenths(j);

@@ -3,16 +3,12 @@ ghost use Rattle.std.specs.Prelude.{◌≡◌, ◌*◌, ◌^◌, ◌≤◌, pos,
 ghost use Rattle.integers.specs.Bound.{Within};
 ghost use Rattle.bspline.specs.Limits.{greatest_factor};
 ghost use Rattle.bspline.specs.Values.{cube, weights};
-ghost use Rattle.sums.specs.Weights.{weighed};
+ghost use Rattle.sums.specs.Sums.{listed};
+
+use crate::four::Four;
 
 // The weights on the coefficients at the places k - 1, k, k + 1 and k + 2.
-#[derive(Clone, Copy)]
-pub struct Weights {
-    pub before: i32,
-    pub here: i32,
-    pub after: i32,
-    pub beyond: i32,
-}
+pub type Weights = Four<i32>;
 
 // The cube of a factor, a numerator or their difference.
 fn cube(x: i32) -> i32
@@ -33,12 +29,12 @@ fn inner(j: i32, m: i32) -> i32
 // The weights at the numerator j over m, over 6m³. From k + 1 and k + 2 the position is seen as from k and k - 1, at the numerator m - j.
 pub fn weights_at(m: usize, j: usize) -> Weights
     requires { (m ≤ greatest_factor) × (j ≤ m) }
-    ensures { weighed result ≡ weights m j }
+    ensures { listed result ≡ weights m j }
 {
     let factor = m as i32;
     let numerator = j as i32;
     let rest = factor - numerator;
-    Weights {
+    Four {
         before: cube(rest),
         here: inner(numerator, factor),
         after: inner(rest, factor),

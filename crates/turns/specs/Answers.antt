@@ -1,18 +1,13 @@
 -- The structs and enums of `turns`, read as the states and answers of the specification. Assumes nothing.
-use Rattle.std.proofs.Math.Option.{Option, none, some}
-use Rattle.std.specs.Prelude.{ℕ}
+use Rattle.std.proofs.Math.Option as maybe
+use Rattle.std.specs.Prelude.{ℕ, Option, Some, None, Result, Ok, Err}
 use Rattle.turns.specs.Outcomes as outcomes
 use Rattle.turns.specs.Outcomes.{accepted, refusal}
 use Rattle.turns.specs.States.{State}
 use Rattle.turns.specs.declared.TurnTaker.{TurnTaker}
-use Rattle.turns.specs.declared.Announcement.{Announcement}
-use Rattle.turns.specs.declared.Reply.{Reply}
-use Rattle.turns.specs.declared.Reply.TheVariants.{Accepted, Refused}
-use Rattle.turns.specs.declared.Named.{Named}
-use Rattle.turns.specs.declared.Named.TheVariants.{Station, Nobody}
+use Rattle.turns.specs.declared.Answered.{Answered}
 use Rattle.turns.specs.declared.Refusal.{Refusal}
 use Rattle.turns.specs.declared.Refusal.TheVariants.{NoStation, AlreadyWaiting}
-use Rattle.turns.specs.declared.Turn.{Turn}
 
 -- the state that a struct holds
 abbrev pub state : TurnTaker → State
@@ -24,17 +19,17 @@ number NoStation = 17
 number AlreadyWaiting = 18
 
 -- what an announcement is answered, and with the state that it leaves
-abbrev pub reply : Reply → outcomes.Reply
-reply Accepted = accepted
-reply (Refused r) = refusal (number r)
+abbrev pub reply : Result Unit Refusal → outcomes.Reply
+reply (Ok tt) = accepted
+reply (Err r) = refusal (number r)
 
-abbrev pub announcement : Announcement → outcomes.Announcement
+abbrev pub announcement : Answered (Result Unit Refusal) → outcomes.Announcement
 announcement a = record { answer = reply a.answer; next = state a.next }
 
 -- whom a turn names, and with the state that it leaves
-abbrev pub named : Named → Option ℕ
-named (Station k) = some k
-named Nobody = none
+abbrev pub named : Option ℕ → maybe.Option ℕ
+named (Some k) = maybe.some k
+named None = maybe.none
 
-abbrev pub turned : Turn → outcomes.Turn
+abbrev pub turned : Answered (Option ℕ) → outcomes.Turn
 turned t = record { answer = named t.answer; next = state t.next }

@@ -7,6 +7,9 @@ ghost use Rattle.turns.specs.Answers.{number, state, announcement, named, turned
 ghost use Rattle.turns.specs.Outcomes.{refusal, announce, turn};
 ghost use Rattle.turns.specs.States.{fresh, stations, station_after, first_waiting};
 
+use std::error::Error;
+use std::fmt;
+
 // How many stations there are. They are numbered from 0.
 pub const STATIONS: usize = 16;
 
@@ -17,64 +20,52 @@ pub struct TurnTaker {
     pub last: usize,
 }
 
-// Why an announcement is refused.
-#[derive(Clone, Copy)]
+// Why an announcement is refused, by its number in the specification.
+#[derive(Clone, Copy, Debug, PartialEq, Eq)]
 pub enum Refusal {
-    NoStation,
-    AlreadyWaiting,
+    NoStation = 17,
+    AlreadyWaiting = 18,
 }
 
-impl Refusal {
-    // Its number in the specification.
-    pub fn number(self) -> usize
-        ensures { result ≡ number self }
-    {
-        match self {
-            Refusal::NoStation => 17,
-            Refusal::AlreadyWaiting => 18,
-        }
+impl From<Refusal> for usize {
+    ghost from_gives = { λ r n. n ≡ number r };
+
+    fn from(refusal: Refusal) -> usize {
+        refusal as usize
     }
 }
 
-// What an announcement answers.
-#[derive(Clone, Copy)]
-pub enum Reply {
-    Accepted,
-    Refused(Refusal),
+impl fmt::Display for Refusal {
+    fn fmt<W: fmt::Write>(&self, f: &mut fmt::Formatter<W>) -> fmt::Result {
+        write!(f, "refused {}", usize::from(*self))
+    }
 }
 
-// The answer of an announcement, and the next state.
+impl Error for Refusal {}
+
+// What an event answers, and the next state.
 #[derive(Clone, Copy)]
-pub struct Announcement {
-    pub answer: Reply,
+pub struct Answered<A> {
+    pub answer: A,
     pub next: TurnTaker,
 }
 
-// What a turn answers: the station whose clip comes next.
-#[derive(Clone, Copy)]
-pub enum Named {
-    Station(usize),
-    Nobody,
-}
+// Of an announcement, and of a turn, which answers the station whose clip comes next.
+pub type Announcement = Answered<Result<(), Refusal>>;
 
-// The answer of a turn, and the next state.
-#[derive(Clone, Copy)]
-pub struct Turn {
-    pub answer: Named,
-    pub next: TurnTaker,
-}
+pub type Turn = Answered<Option<usize>>;
 
 // A refused announcement changes nothing.
 fn refused(taker: TurnTaker, why: Refusal) -> Announcement
     ensures { announcement result ≡ record { answer = refusal (number why); next = state taker } }
 {
     Announcement {
-        answer: Reply::Refused(why),
+        answer: Err(why),
         next: taker,
     }
 }
 
-// The station after one, going round.
+// The station after one, going round. A remainder would be no plainer: every number from 15 on has 0 after it.
 fn after(station: usize) -> usize
     ensures { result ≡ station_after station }
 {
@@ -86,20 +77,19 @@ fn after(station: usize) -> usize
 }
 
 // The first station that waits, from one on and going round.
-fn first_waiting(marks: [bool; STATIONS], from: usize) -> Named
+#[tactic(auto, using(crate::proofs::GoingRound::after_inside, crate::proofs::GoingRound::first_step, crate::proofs::GoingRound::first_none))]
+fn first_waiting(marks: [bool; STATIONS], from: usize) -> Option<usize>
     requires { from < stations }
     ensures { named result ≡ first_waiting marks from stations }
 {
     let mut station = from;
-    let mut left = STATIONS;
-    while 0 < left {
+    for _looked in 0..STATIONS {
         if marks[station] {
-            return Named::Station(station);
+            return Some(station);
         }
         station = after(station);
-        left -= 1;
     }
-    Named::Nobody
+    None
 }
 
 impl TurnTaker {
@@ -127,7 +117,7 @@ impl TurnTaker {
         }
         waiting[station] = true;
         Announcement {
-            answer: Reply::Accepted,
+            answer: Ok(()),
             next: Self {
                 waiting,
                 last: self.last,
@@ -142,18 +132,18 @@ impl TurnTaker {
     {
         let mut waiting = self.waiting;
         match first_waiting(waiting, after(self.last)) {
-            Named::Station(station) => {
+            Some(station) => {
                 waiting[station] = false;
                 Turn {
-                    answer: Named::Station(station),
+                    answer: Some(station),
                     next: Self {
                         waiting,
                         last: station,
                     },
                 }
             }
-            Named::Nobody => Turn {
-                answer: Named::Nobody,
+            None => Turn {
+                answer: None,
                 next: self,
             },
         }

@@ -7,13 +7,13 @@ ghost use Rattle.answers.specs.Answers.{placed, valued, written};
 ghost use Rattle.two_rows.specs.TwoRows.{BothAsked, BothTransformed, NearCoefficients, NearValues, Opposites};
 
 use round_trip::value_of_row;
-use spline::{Position, Valued, Written};
+use spline::{Position, Refusal};
 
-// What is answered of the transforms of two rows.
+// What is answered of two rows.
 #[derive(Clone, Copy)]
-pub struct Counts {
-    pub first: Written,
-    pub second: Written,
+pub struct Both<T> {
+    pub first: T,
+    pub second: T,
 }
 
 // Transforms two rows, each into a buffer of its own, with one work slice.
@@ -23,7 +23,7 @@ pub fn transforms_of_two(
     coefficients: &mut [i32],
     others: &mut [i32],
     work: &mut [i64],
-) -> Counts
+) -> Both<Result<usize, Refusal>>
     ensures both_transformed { BothTransformed first.now second.now coefficients.old others.old work.old
         (written result.first) (written result.second) coefficients.new others.new work.new }
     ensures near_coefficients { NearCoefficients first.now second.now (written result.first) (written result.second)
@@ -31,17 +31,10 @@ pub fn transforms_of_two(
 {
     let a = spline::row::transform(first, coefficients, work);
     let b = spline::row::transform(second, others, work);
-    Counts {
+    Both {
         first: a,
         second: b,
     }
-}
-
-// What is answered of the values of two rows.
-#[derive(Clone, Copy)]
-pub struct Answers {
-    pub first: Valued,
-    pub second: Valued,
 }
 
 // Transforms a row and asks for its value at a position, and does the same with another row in the same buffers.
@@ -52,7 +45,7 @@ pub fn values_of_two(
     m: usize,
     coefficients: &mut [i32],
     work: &mut [i64],
-) -> Answers
+) -> Both<Result<i32, Refusal>>
     ensures both_asked { BothAsked first.now second.now coefficients.old work.old m (placed position)
         (valued result.first) (valued result.second) }
     ensures opposites { Opposites first.now second.now (valued result.first) (valued result.second) }
@@ -60,7 +53,7 @@ pub fn values_of_two(
 {
     let value = value_of_row(first, position, m, coefficients, work);
     let other = value_of_row(second, position, m, coefficients, work);
-    Answers {
+    Both {
         first: value,
         second: other,
     }

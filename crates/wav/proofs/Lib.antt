@@ -1,2 +1,2 @@
 -- The laws from which the functions of `wav` are proved.
-pub mod Lending
+pub mod Signs

@@ -1,10 +1,11 @@
--- The enum of `wav`, read as the answers of the specification. Assumes nothing.
+-- The answer of `wav`, read as that of the specification. Assumes nothing.
+use Rattle.std.specs.Prelude.{Result, Ok, Err}
 use Rattle.answers.specs.Answers.{number}
+use Rattle.answers.specs.declared.Refusal.{Refusal}
 use Rattle.wavefile.specs.Outcomes.{Answer, clip, refusal}
-use Rattle.wav.specs.declared.Reading.{Reading}
-use Rattle.wav.specs.declared.Reading.TheVariants.{Clip, Refused}
+use Rattle.wav.specs.declared.Clip.{Clip}
 
--- what the enum answers
-abbrev pub answered : Reading → Answer
-answered (Clip count rate) = clip count rate
-answered (Refused r) = refusal (number r)
+-- a clip, or the refusal
+abbrev pub answered : Result Clip Refusal → Answer
+answered (Ok c) = clip c.count c.rate
+answered (Err r) = refusal (number r)

@@ -1,2 +1,2 @@
--- The enum of `wav`, read as what `wavefile` defines.
+-- The answer of `wav`, read as what `wavefile` defines.
 pub mod Answers

@@ -1,38 +1,30 @@
-// What a "fmt " chunk says.
-ghost use Rattle.std.specs.Prelude.{◌≡◌, drop};
-ghost use Rattle.wavefile.specs.Chunks.{body};
+// What the body of a "fmt " chunk says.
+ghost use Rattle.std.specs.Prelude.{◌≡◌, ◌≤◌, length};
 ghost use Rattle.wavefile.specs.Formats.{plain, rate};
-ghost use Rattle.riff.specs.Places.{LongFormat};
 
 use riff::fields::{four_bytes, two_bytes};
 
-// Where the fields stand in a chunk, from its name on. Between the rate and the bits are the byte rate and the block alignment.
-const TAG: usize = 8;
+// Where the fields stand. Between the rate and the bits are the byte rate and the block alignment.
+const TAG: usize = 0;
 
-const CHANNELS: usize = 10;
+const CHANNELS: usize = 2;
 
-const RATE: usize = 12;
+const RATE: usize = 4;
 
-const BITS: usize = 22;
+const BITS: usize = 14;
 
-// Whether the chunk at a place has the format that is read.
-pub(crate) fn plain(bytes: &[u8], format: usize) -> bool
-    requires { LongFormat bytes.now format }
-    ensures { result ≡ plain (body (drop format bytes.now)) }
+// Whether it is the format that is read.
+pub(crate) fn plain(format: &[u8]) -> bool
+    requires { 16 ≤ length format.now }
+    ensures { result ≡ plain format.now }
 {
-    if two_bytes(bytes, format + TAG) != 1 {
-        return false;
-    }
-    if two_bytes(bytes, format + CHANNELS) != 1 {
-        return false;
-    }
-    two_bytes(bytes, format + BITS) == 16
+    two_bytes(format, TAG) == 1 && two_bytes(format, CHANNELS) == 1 && two_bytes(format, BITS) == 16
 }
 
 // Its samples a second.
-pub(crate) fn rate(bytes: &[u8], format: usize) -> u32
-    requires { LongFormat bytes.now format }
-    ensures { result ≡ rate (body (drop format bytes.now)) }
+pub(crate) fn rate(format: &[u8]) -> u32
+    requires { 16 ≤ length format.now }
+    ensures { result ≡ rate format.now }
 {
-    four_bytes(bytes, format + RATE)
+    four_bytes(format, RATE)
 }

@@ -2,23 +2,26 @@
 // rows of zeros go there as they are. The file stdout has what is right.
 #![tactic(auto)]
 
-use delay::Measurement;
-use report::{VALUES, WORK};
+use delay::{Delay, Refusal};
+use report::{TOO_MANY, VALUES, WORK};
 use spline::limits::GREATEST_FACTOR;
 use std::io;
 use std::io::Print;
 
 // The answer ends a line.
-fn measured<P: Print>(rt: &P, answer: Measurement) -> io::Result<()> {
+fn measured<P: Print>(rt: &P, answer: Result<Delay, Refusal>) -> io::Result<()> {
     match answer {
-        Measurement::Delay(d) => {
-            report::real(rt, b": delay ", d.samples)?;
-            report::real(rt, b", heights ", d.first_height)?;
-            report::real(rt, b" and ", d.second_height)?
+        Ok(
+            Delay {
+                samples,
+                first_height,
+                second_height,
+            },
+        ) => {
+            println!(rt; ": delay {samples:.8}, heights {first_height:.8} and {second_height:.8}")
         }
-        Measurement::Refused(r) => report::number(rt, b": refused ", r.number())?,
+        Err(refusal) => println!(rt; ": {refusal}"),
     }
-    report::words(rt, b"\n")
 }
 
 // Three samples, of which one is 1 and the others are 0. The test is for the prover: no case has a sample past the third.
@@ -33,9 +36,9 @@ fn click(sample: usize) -> [i16; 3] {
 // The values of a click at a factor, and zeros behind them.
 fn zoomed(sample: usize, m: usize) -> [i32; VALUES] {
     let mut coefficients = [0i32; 3];
-    spline::row::transform(&click(sample), &mut coefficients, &mut [0; WORK]);
+    let _ = spline::row::transform(&click(sample), &mut coefficients, &mut [0; WORK]);
     let mut values = [0i32; VALUES];
-    spline::row::zoom(&coefficients, m, &mut values);
+    let _ = spline::row::zoom(&coefficients, m, &mut values);
     values
 }
 
@@ -47,18 +50,17 @@ fn clicks<P: Print>(
     m: usize,
     threshold: i32,
 ) -> io::Result<()> {
-    report::number(rt, b"clicks at sample ", first)?;
-    report::number(rt, b" and at sample ", second)?;
-    report::number(rt, b", factor ", m)?;
-    report::signed(rt, b", threshold ", threshold)?;
+    print!(rt;
+        "clicks at sample {first} and at sample {second}, factor {m}, threshold {threshold}"
+    )?;
     let one = zoomed(first, m);
     let other = zoomed(second, m);
     let n = if m <= GREATEST_FACTOR { 2 * m + 1 } else { 0 };
     measured(
         rt,
         delay::between(
-            report::first_values(&one, n),
-            report::first_values(&other, n),
+            report::first(&one, n),
+            report::first(&other, n),
             m,
             threshold,
         ),
@@ -67,15 +69,13 @@ fn clicks<P: Print>(
 
 // The delay between so many zeros and so many others: every value reaches the threshold.
 fn rows<P: Print>(rt: &P, first: usize, second: usize, m: usize) -> io::Result<()> {
-    report::number(rt, b"rows of ", first)?;
-    report::number(rt, b" and of ", second)?;
-    report::number(rt, b" zeros, factor ", m)?;
-    let values = report::zeros();
+    print!(rt; "rows of {first} and of {second} zeros, factor {m}")?;
+    let values = report::zeros::<TOO_MANY>();
     measured(
         rt,
         delay::between(
-            report::first_values(&values, first),
-            report::first_values(&values, second),
+            report::first(&values, first),
+            report::first(&values, second),
             m,
             0,
         ),

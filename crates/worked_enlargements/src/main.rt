@@ -2,15 +2,13 @@
 // Where only sizes matter the coefficients are zeros.
 #![tactic(auto)]
 
-use report::UNSET;
+use report::{UNSET, WORK};
 use spline::Shape;
-use spline::limits::{GREATEST_FACTOR, MARGINS};
+use spline::limits::GREATEST_FACTOR;
 use std::io;
 use std::io::Print;
 
-// The work that a picture takes whose longer side is three, and its values at factor 3, with one to spare.
-const WORK: usize = 3 + MARGINS;
-
+// The values at factor 3, with one to spare.
 const VALUES: usize = 29;
 
 // The coefficients of a picture with one column more than one which has the most values at factor 11, and room for a few values.
@@ -19,20 +17,18 @@ const MANY: usize = 95 * 94;
 const ROOM: usize = 6;
 
 // The greatest number of the machine.
-const GREATEST: usize = 18446744073709551615;
+const GREATEST: usize = usize::MAX;
 
 // 3 columns and 2 rows of pixels, all of them s but the one in the middle of the first row.
 fn enlarge<P: Print>(rt: &P, s: i16, middle: i16, m: usize) -> io::Result<()> {
-    report::sample(rt, b"picture of ", s)?;
-    report::sample(rt, b" around ", middle)?;
-    report::number(rt, b" at factor ", m)?;
+    print!(rt; "picture of {s} around {middle} at factor {m}")?;
     let shape = Shape {
         width: 3,
         height: 2,
         pitch: 3,
     };
     let mut coefficients = [0i32; 6];
-    spline::picture::transform(
+    let _ = spline::picture::transform(
         &[s, middle, s, s, s, s],
         shape,
         &mut coefficients,
@@ -41,12 +37,7 @@ fn enlarge<P: Print>(rt: &P, s: i16, middle: i16, m: usize) -> io::Result<()> {
     let mut values = [UNSET; VALUES];
     let answer = spline::picture::enlarge(&coefficients, shape, m, &mut values);
     report::list(rt, &values)?;
-    report::written(rt, answer)
-}
-
-// A function only so that `sizes` knows the array by its type: of an array that is written out the prover counts the elements.
-fn zeros() -> [i32; MANY] {
-    [0; MANY]
+    report::answer(rt, answer)
 }
 
 // So many coefficients, and room for a few values.
@@ -58,21 +49,18 @@ fn sizes<P: Print>(
     count: usize,
     m: usize,
 ) -> io::Result<()> {
-    report::number(rt, b"picture ", width)?;
-    report::number(rt, b" x ", height)?;
-    report::number(rt, b" at pitch ", pitch)?;
-    report::number(rt, b" in ", count)?;
-    report::number(rt, b" coefficients at factor ", m)?;
-    report::number(rt, b", room for ", ROOM)?;
+    print!(rt;
+        "picture {width} x {height} at pitch {pitch} in {count} coefficients at factor {m}, room for {ROOM}"
+    )?;
     let shape = Shape {
         width,
         height,
         pitch,
     };
-    report::written(
+    report::answer(
         rt,
         spline::picture::enlarge(
-            report::first_values(&zeros(), count),
+            report::first(&report::zeros::<MANY>(), count),
             shape,
             m,
             &mut [0; ROOM],

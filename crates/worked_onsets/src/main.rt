@@ -2,50 +2,39 @@
 // what is right.
 #![tactic(auto)]
 
-use onset::Detection;
 use onset::limits::{GREATEST_FACTOR, MOST_VALUES};
+use onset::{Detection, Refusal};
 use report::{TOO_MANY, VALUES, WORK};
-use spline::Written;
 use std::io;
 use std::io::Print;
 
 // The answer of a search ends a line.
-fn detected<P: Print>(rt: &P, answer: Detection) -> io::Result<()> {
+fn detected<P: Print>(rt: &P, answer: Result<Detection, Refusal>) -> io::Result<()> {
     match answer {
-        Detection::Onset(position, height) => {
-            report::real(rt, b": onset at ", position)?;
-            report::real(rt, b", height ", height)?
+        Ok(Detection::Onset(position, height)) => {
+            println!(rt; ": onset at {position:.8}, height {height:.8}")
         }
-        Detection::Quiet(height) => report::real(rt, b": quiet, height ", height)?,
-        Detection::Refused(r) => report::number(rt, b": refused ", r.number())?,
+        Ok(Detection::Quiet(height)) => println!(rt; ": quiet, height {height:.8}"),
+        Err(refusal) => println!(rt; ": {refusal}"),
     }
-    report::words(rt, b"\n")
 }
 
-// Finds the onset of (0, 1, 0) at a factor.
+// Finds the onset of (0, 1, 0) at a factor. Where the zoom refuses it, the search is lent the whole buffer.
 fn find<P: Print>(rt: &P, m: usize, threshold: i32) -> io::Result<()> {
-    report::number(rt, b"row of 0 around 1 at factor ", m)?;
-    report::signed(rt, b", threshold ", threshold)?;
+    print!(rt; "row of 0 around 1 at factor {m}, threshold {threshold}")?;
     let mut coefficients = [0i32; 3];
-    spline::row::transform(&[0, 1, 0], &mut coefficients, &mut [0; WORK]);
+    let _ = spline::row::transform(&[0, 1, 0], &mut coefficients, &mut [0; WORK]);
     let mut values = [0i32; VALUES];
-    match spline::row::zoom(&coefficients, m, &mut values) {
-        Written::Count(n) => detected(
-            rt,
-            onset::find(report::first_values(&values, n), m, threshold),
-        ),
-        Written::Refused(_) => detected(rt, onset::find(&values, m, threshold)),
-    }
+    let count = spline::row::zoom(&coefficients, m, &mut values).unwrap_or(VALUES);
+    detected(rt, onset::find(report::first(&values, count), m, threshold))
 }
 
 // Finds the onset of so many zeros: every value reaches the threshold.
 fn find_zeros<P: Print>(rt: &P, n: usize, m: usize) -> io::Result<()> {
-    report::number(rt, b"row of ", n)?;
-    report::number(rt, b" zeros at factor ", m)?;
-    report::signed(rt, b", threshold ", 0)?;
+    print!(rt; "row of {n} zeros at factor {m}, threshold 0")?;
     detected(
         rt,
-        onset::find(report::first_values(&report::zeros(), n), m, 0),
+        onset::find(report::first(&report::zeros::<TOO_MANY>(), n), m, 0),
     )
 }
 

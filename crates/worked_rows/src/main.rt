@@ -2,7 +2,7 @@
 // matter the row is of zeros.
 #![tactic(auto)]
 
-use report::UNSET;
+use report::{UNSET, VALUES, WORK};
 use spline::Position;
 use spline::limits::{GREATEST_FACTOR, LONGEST_ROW, LONGEST_ROW_WORK, MARGINS, MOST_VALUES};
 use std::io;
@@ -10,24 +10,18 @@ use std::io::Print;
 
 const TOO_LONG: usize = LONGEST_ROW + 1;
 
-// The work that three samples take, and more than any row takes.
-const WORK_OF_THREE: usize = 3 + MARGINS;
-
+// More work than any row takes.
 const MUCH_WORK: usize = TOO_LONG + MARGINS;
-
-// The values of three samples at the greatest factor.
-const VALUES_OF_THREE: usize = 2 * GREATEST_FACTOR + 1;
 
 // So many samples, and so many words of work.
 fn transform<P: Print>(rt: &P, n: usize, work: usize) -> io::Result<()> {
-    report::number(rt, b"row of ", n)?;
-    report::number(rt, b", work of ", work)?;
-    report::written(
+    print!(rt; "row of {n}, work of {work}")?;
+    report::answer(
         rt,
         spline::row::transform(
-            report::first_samples(&[0; TOO_LONG], n),
+            report::first(&[0; TOO_LONG], n),
             &mut [0; TOO_LONG],
-            report::first_work(&mut [0; MUCH_WORK], work),
+            report::first_mut(&mut [0; MUCH_WORK], work),
         ),
     )
 }
@@ -35,57 +29,45 @@ fn transform<P: Print>(rt: &P, n: usize, work: usize) -> io::Result<()> {
 // The coefficients of a row of three.
 fn three(end: i16, middle: i16) -> [i32; 3] {
     let mut coefficients = [0i32; 3];
-    spline::row::transform(
-        &[end, middle, end],
-        &mut coefficients,
-        &mut [0; WORK_OF_THREE],
-    );
+    let _ = spline::row::transform(&[end, middle, end], &mut coefficients, &mut [0; WORK]);
     coefficients
 }
 
 // The values of a row of three at a factor.
 fn zoom_three<P: Print>(rt: &P, end: i16, middle: i16, m: usize) -> io::Result<()> {
-    report::sample(rt, b"row of ", end)?;
-    report::sample(rt, b" around ", middle)?;
-    report::number(rt, b" at factor ", m)?;
-    let mut values = [UNSET; VALUES_OF_THREE];
+    print!(rt; "row of {end} around {middle} at factor {m}")?;
+    let mut values = [UNSET; VALUES];
     let answer = spline::row::zoom(&three(end, middle), m, &mut values);
     report::list(rt, &values)?;
-    report::written(rt, answer)
+    report::answer(rt, answer)
 }
 
 // A constant row at every factor.
 fn constant<P: Print>(rt: &P, s: i16) -> io::Result<()> {
-    for m in 1..GREATEST_FACTOR + 1 {
+    for m in 1..=GREATEST_FACTOR {
         zoom_three(rt, s, s, m)?;
     }
     Ok(())
 }
 
 // The value of (0, 1, 0) at a position.
-fn value<P: Print>(rt: &P, p: Position, m: usize) -> io::Result<()> {
-    report::place(rt, b"row of 0 around 1, place ", p, m)?;
-    report::valued(rt, spline::row::value(&three(0, 1), p, m))
+fn value<P: Print>(rt: &P, position: Position, m: usize) -> io::Result<()> {
+    let Position { k, j } = position;
+    print!(rt; "row of 0 around 1, place {k} + {j}/{m}")?;
+    report::answer(rt, spline::row::value(&three(0, 1), position, m))
 }
 
-// A function only so that `zoom_longest` knows the array by its type: of an array that is written out the prover counts the elements.
-fn many_values() -> [i32; MOST_VALUES] {
-    [0; MOST_VALUES]
-}
-
-// The longest row at the greatest factor, with room for so many values. No example asks for more than there is.
+// The longest row at the greatest factor, with room for so many values.
 fn zoom_longest<P: Print>(rt: &P, room: usize) -> io::Result<()> {
-    report::number(rt, b"row of ", LONGEST_ROW)?;
-    report::number(rt, b" at factor ", GREATEST_FACTOR)?;
-    report::number(rt, b", room for ", room)?;
-    let mut values = many_values();
-    if room <= MOST_VALUES {
-        report::written(
-            rt,
-            spline::row::zoom(&[0; LONGEST_ROW], GREATEST_FACTOR, &mut values[0..room]),
-        )?;
-    }
-    Ok(())
+    print!(rt; "row of {LONGEST_ROW} at factor {GREATEST_FACTOR}, room for {room}")?;
+    report::answer(
+        rt,
+        spline::row::zoom(
+            &[0; LONGEST_ROW],
+            GREATEST_FACTOR,
+            report::first_mut(&mut report::zeros::<MOST_VALUES>(), room),
+        ),
+    )
 }
 
 fn main(rt: HostRuntime) -> io::Result<()> {
@@ -109,8 +91,8 @@ fn main(rt: HostRuntime) -> io::Result<()> {
     transform(&rt, 1, MUCH_WORK)?;
     transform(&rt, LONGEST_ROW, MUCH_WORK)?;
     transform(&rt, TOO_LONG, MUCH_WORK)?;
-    transform(&rt, 3, WORK_OF_THREE - 1)?;
-    transform(&rt, 3, WORK_OF_THREE)?;
+    transform(&rt, 3, WORK - 1)?;
+    transform(&rt, 3, WORK)?;
     transform(&rt, LONGEST_ROW, LONGEST_ROW_WORK - 1)?;
     transform(&rt, LONGEST_ROW, LONGEST_ROW_WORK)?;
     zoom_longest(&rt, MOST_VALUES - 1)?;

@@ -2,16 +2,13 @@
 // row transform. The file stdout has what is right.
 #![tactic(auto)]
 
-use spline::limits::MARGINS;
+use report::WORK;
 use std::io;
 use std::io::Print;
-use turns::{Named, Reply, STATIONS, TurnTaker};
+use turns::{STATIONS, TurnTaker};
 
 // The station that is never quiet.
 const NEVER_QUIET: usize = 7;
-
-// The work that a clip of three samples takes.
-const WORK: usize = 3 + MARGINS;
 
 // A station's clip: its number between two zeros.
 fn clip(station: usize) -> [i16; 3] {
@@ -24,33 +21,29 @@ fn clip(station: usize) -> [i16; 3] {
 
 // Transforms the clip of the station that has its turn, and prints the coefficients.
 fn transform<P: Print>(rt: &P, station: usize) -> io::Result<()> {
-    report::number(rt, b"turn of ", station)?;
+    print!(rt; "turn of {station}")?;
     let mut coefficients = [report::UNSET; 3];
     let answer = spline::row::transform(&clip(station), &mut coefficients, &mut [0; WORK]);
     report::list(rt, &coefficients)?;
-    report::written(rt, answer)
+    report::answer(rt, answer)
 }
 
 // A station announces a clip, and the next state is returned.
 fn announce<P: Print>(rt: &P, taker: TurnTaker, station: usize) -> io::Result<TurnTaker> {
-    report::number(rt, b"station ", station)?;
     let done = taker.announce(station);
-    let answer = done.answer;
-    match answer {
-        Reply::Accepted => { report::words(rt, b": accepted")? }
-        Reply::Refused(r) => report::number(rt, b": refused ", r.number())?,
+    match done.answer {
+        Ok(()) => println!(rt; "station {station}: accepted")?,
+        Err(refusal) => println!(rt; "station {station}: {refusal}")?,
     }
-    report::words(rt, b"\n")?;
     Ok(done.next)
 }
 
 // A turn with the clip of the station that it names, and the next state is returned.
 fn turn<P: Print>(rt: &P, taker: TurnTaker) -> io::Result<TurnTaker> {
     let done = taker.turn();
-    let answer = done.answer;
-    match answer {
-        Named::Station(station) => transform(rt, station)?,
-        Named::Nobody => { report::words(rt, b"turn of nobody\n")? }
+    match done.answer {
+        Some(station) => transform(rt, station)?,
+        None => println!(rt; "turn of nobody")?,
     }
     Ok(done.next)
 }

@@ -1,5 +1,5 @@
--- The first i numbers are the raised samples, and the samples read so far are 16-bit numbers. What is left of them is the measure.
-use Rattle.std.proofs.Common.{ℕ, length, map, nat_abs, ◌-◌, ◌<◌, ◌≤◌, ◌^◌}
+-- The first i numbers are the raised samples, and the samples read so far are 16-bit numbers.
+use Rattle.std.proofs.Common.{ℕ, map, nat_abs, ◌<◌, ◌≤◌, ◌^◌}
 use Rattle.bspline.specs.Lists.{at}
 use Rattle.bspline.proofs.FilledLists.{Filled}
 use Rattle.buffers.specs.Raised.{raised}
@@ -10,6 +10,3 @@ invariant-loop-i l = record {
   filled : Filled (map raised l.samples) l.c l.i;
   small : (k : ℕ) → k < l.i → nat_abs (at l.samples k) ≤ 2 ^ 15;
 }
-
-abbrev pub decreases-loop-i : goal.decreases-loop-i
-decreases-loop-i l = length l.initial.c - l.i

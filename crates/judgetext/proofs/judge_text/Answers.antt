@@ -7,7 +7,8 @@ use mir.Val.{SFits}
 use Rattle.judgetext.proofs.Judging.{text_judged}
 use Rattle.judgetext.proofs.judge_text.Goals as goal
 
-pub returns-in-Count : goal.returns-in-Count
-returns-in-Count c =
+pub returns : goal.returns
+returns c =
     let f : SFits w16 (get_or c.read_text.new.buffer 0 (pos 0)) = search rules in
-    (rw (to_z-of_z f) at c.judge_numbers.ensures) ∙ sym (text_judged c.in-Count.ensures (omega arith))
+    let read = rw c.in_ok-n.ensures.ok_part at c.read_text.ensures in
+    (rw (to_z-of_z f) at c.judge_numbers.ensures) ∙ sym (text_judged read (omega arith))

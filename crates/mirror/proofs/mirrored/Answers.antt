@@ -1,34 +1,44 @@
--- A row of one reads place 0, an index inside the row is its own place, and elsewhere the remainder that the code computes is the index modulo
--- 2(n - 1), which is folded as the definition folds it.
-use Rattle.std.proofs.Common.{◌≡◌, ◌≤◌, pos, ◌-ℤ◌, ◌-◌, arith, sym}
+-- An index inside the row is its own place. Elsewhere the remainder that the code computes is the index modulo 2(n - 1), and the lesser of it and the
+-- rest of the period is what the definition folds it to; in a row of one number the remainder is 0, which is the only place.
+use Rattle.std.proofs.Common.{◌≡◌, ℕ, ◌+◌, ◌-◌, ◌*◌, ◌%◌, ◌^◌, ◌≤◌, ◌<◌, min, max, pos, ◌-ℤ◌, arith, sym, ◌∙◌, mod-lt}
+use native.Mathlib.Decide.{ℕ_discrete, dec_le}
 use Rattle.bspline.specs.Mirror.{mirror}
 use Rattle.bspline.proofs.Mirror.{period, mirror_one, mirror_low, mirror_high, mirror_is, mirror_below}
 use Rattle.integers.specs.Division.{modulo}
-use Rattle.integers.proofs.Division.{modulo_shift}
+use Rattle.integers.proofs.Division.{modulo_shift, modulo_below}
 use Rattle.integers.proofs.Linear.{reify, show}
 use Rattle.mirror.proofs.mirrored.Goals as goal
 
-pub returns-then-n-eq1 : goal.returns-then-n-eq1
-returns-then-n-eq1 c = (sym (mirror_one c.args.n (pos c.args.i -ℤ pos c.args.before) c.if-n-eq1.true), omega arith)
+-- the lesser of a remainder by P and the rest of P, at the index i - M
+abbrev lesser : (i M P : ℕ) → ℕ
+lesser i M P = min ((i + M * (P - 1)) % P) (P - (i + M * (P - 1)) % P)
 
-pub returns-then-i-before : goal.returns-then-i-before
-returns-then-i-before c =
-    let a = c.args in
-    let l : a.before ≤ a.i = c.if-before-i.true in
-    (sym (mirror_is a.n (pos a.i -ℤ pos a.before) (a.i - a.before) c.if-i-before.true (show (simp reify tt) (omega arith))), c.if-i-before.true)
+lesser_is : (n i M P : ℕ) → 0 < n → P ≡ max (period n) 1 → lesser i M P ≡ mirror n (pos i -ℤ pos M)
+lesser_is n i M P h e = go (ℕ_discrete n 1)
+  where
+    single : n ≡ 1 → lesser i M P ≡ 0
+    single d = let some : 0 < P = omega arith in omega (arith, mod-lt (i + M * (P - 1)) some)
 
-pub returns-then-n-r : goal.returns-then-n-r
-returns-then-n-r c =
+    folded : (n ≡ 1 → ⊥) → Dec (modulo (pos i -ℤ pos M) (period n) ≤ n - 1) → lesser i M (period n) ≡ mirror n (pos i -ℤ pos M)
+    folded d (yes l) = rw (← modulo_shift i M (period n) (omega arith)) (omega (arith, mirror_low n (pos i -ℤ pos M) d l))
+    folded d (no l) =
+        rw (← modulo_shift i M (period n) (omega arith))
+        (omega (arith, modulo_below (pos i -ℤ pos M) (period n) (omega arith), mirror_high n (pos i -ℤ pos M) d (omega arith)))
+
+    go : Dec (n ≡ 1) → lesser i M P ≡ mirror n (pos i -ℤ pos M)
+    go (yes d) = single d ∙ sym (mirror_one n (pos i -ℤ pos M) d)
+    go (no d) = let whole : P ≡ period n = omega arith in rw whole (folded d (dec_le (modulo (pos i -ℤ pos M) (period n)) (n - 1)))
+
+pub returns-then-place-n : goal.returns-then-place-n
+returns-then-place-n c =
     let a = c.args in
-    let e = modulo_shift a.i a.before (period a.n) (omega arith) in
-    let h : period a.n - modulo (pos a.i -ℤ pos a.before) (period a.n) ≡ mirror a.n (pos a.i -ℤ pos a.before) =
-    sym (mirror_high a.n (pos a.i -ℤ pos a.before) c.if-n-eq1.false (rw e c.if-n-r.true)) in
-    rw (← e) (h, rw h (mirror_below a.n (pos a.i -ℤ pos a.before) (omega arith)))
+    let l : a.before ≤ a.i = omega arith in
+    let e : (a.i + (2 ^ 64 - a.before)) % 2 ^ 64 ≡ a.i - a.before = omega arith in
+    let k : a.i - a.before < a.n = rw e at c.if-place-n.true in
+    rw e (sym (mirror_is a.n (pos a.i -ℤ pos a.before) (a.i - a.before) k (show (simp reify tt) (omega arith))), k)
 
 pub returns : goal.returns
 returns c =
     let a = c.args in
-    let e = modulo_shift a.i a.before (period a.n) (omega arith) in
-    let h : modulo (pos a.i -ℤ pos a.before) (period a.n) ≡ mirror a.n (pos a.i -ℤ pos a.before) =
-    sym (mirror_low a.n (pos a.i -ℤ pos a.before) c.if-n-eq1.false (rw e c.if-n-r.false)) in
-    rw (← e) (h, rw h (mirror_below a.n (pos a.i -ℤ pos a.before) (omega arith)))
+    let e = c.min.ensures ∙ lesser_is a.n a.i a.before c.max-period.result (omega arith) c.max-period.ensures in
+    (e, rw e (mirror_below a.n (pos a.i -ℤ pos a.before) (omega arith)))

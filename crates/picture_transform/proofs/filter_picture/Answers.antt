@@ -18,29 +18,29 @@ returned k part l e =
 
 pub filter_lines-requires : goal.filter_lines-requires
 filter_lines-requires c = (
-  rows_ready (described c.args.shape) c.args.pixels.now c.raise_picture.new.c c.requires.good c.raise_picture.ensures,
+  rows_ready (described c.args.picture.shape) c.args.pixels.now c.raise_picture.new.c c.args.picture.within c.raise_picture.ensures,
   length-take-le _ _ (search rules),
 )
 
 pub filter_lines-requires-2 : goal.filter_lines-requires-2
 filter_lines-requires-2 c =
-    let d = described c.args.shape in
+    let d = described c.args.picture.shape in
     let work = c.args.work.now in
     let part = c.filter_lines.new.work in
     let long = returned (work_words d.width) part work c.filter_lines.auto.work ∙ c.requires.words in (
-      columns_ready d c.args.pixels.now c.raise_picture.new.c c.requires.good c.raise_picture.ensures c.filter_lines.new.c c.filter_lines.ensures,
+      columns_ready d c.args.pixels.now c.raise_picture.new.c c.args.picture.within c.raise_picture.ensures c.filter_lines.new.c c.filter_lines.ensures,
       length-take-le _ _ (omega (arith, long)),
     )
 
 pub returns : goal.returns
 returns c =
-    let d = described c.args.shape in
+    let d = described c.args.picture.shape in
     let work = c.args.work.now in
     let part = c.filter_lines.new.work in
     let long = returned (work_words d.width) part work c.filter_lines.auto.work ∙ c.requires.words in
     record {
       coefficients =
-          picture_filtered d c.args.pixels.now c.raise_picture.new.c c.requires.good c.raise_picture.ensures
+          picture_filtered d c.args.pixels.now c.raise_picture.new.c c.args.picture.within c.raise_picture.ensures
           c.filter_lines.new.c c.filter_lines.ensures c.filter_lines-2.new.c c.filter_lines-2.ensures;
       small = c.raise_picture.ensures.small;
       cleared =

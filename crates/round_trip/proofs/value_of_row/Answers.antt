@@ -8,12 +8,7 @@ pub slice_bounds-value-end : goal.slice_bounds-value-end
 slice_bounds-value-end c =
     let a = c.args in
     let new = c.transform.new in
-    (row_left a.samples.now a.coefficients.now a.work.now new.coefficients new.work c.in-Count.n c.in-Count.ensures.work_after).3
+    (row_left a.samples.now a.coefficients.now a.work.now new.coefficients new.work c.in_ok-n.n c.in_ok-n.ensures.work_after).3
 
-pub slice_bounds-value-end-in-Count : goal.slice_bounds-value-end-in-Count
-slice_bounds-value-end-in-Count c =
-    let a = c.args in
-    let new = c.transform.new in
-    sym
-    (length-take-le _ _
-    (row_left a.samples.now a.coefficients.now a.work.now new.coefficients new.work c.in-Count.n c.in-Count.ensures.work_after).3)
+pub slice_bounds-value-end-2 : goal.slice_bounds-value-end-2
+slice_bounds-value-end-2 c = sym (length-take-le _ _ (slice_bounds-value-end c))

@@ -1,19 +1,19 @@
 -- The powers of the factor fit 32 bits and every product and sum with the four numbers 64, and the cubic of the four is the weighted sum.
-use Rattle.std.proofs.Common.{◌≡◌, ap, ◌∙◌, ℕ, ◌≤◌, pos, ◌+ℤ◌, ◌*ℤ◌, w32, w64}
+use Rattle.std.proofs.Common.{◌≡◌, ap, ◌∙◌, ℕ, ◌≤◌, ℤ, pos, ◌+ℤ◌, ◌*ℤ◌, w32, w64}
 use mathlib.Core.Path.{ap₂}
 use lib.Dec.{lit<}
 use Rattle.integers.proofs.Words.{Word, given, counted, cast, literal, plus, minus, times, operand_small}
 use Rattle.bspline.specs.Bounds.{AllWithin}
 use Rattle.bspline.specs.Limits.{greatest_factor}
 use Rattle.bspline.specs.Lists.{at}
-use Rattle.sums.specs.declared.rows.Four.{Four}
+use Rattle.sums.specs.declared.four.Four.{Four}
 use Rattle.sums.specs.Sums.{greatest_sum, listed}
 use Rattle.cubic.specs.Cubics.{cubic_sum}
 use Rattle.cubic.proofs.CubicSum.{cubic_sum_lem}
 use Rattle.cubic.proofs.weighted.cubic_of.Goals as goal
 
 -- the products and sums
-module _ (m : ℕ) (four : Four) (small : AllWithin greatest_sum (listed four)) (few : m ≤ greatest_factor) where
+module _ (m : ℕ) (four : Four ℤ) (small : AllWithin greatest_sum (listed four)) (few : m ≤ greatest_factor) where
   -- the powers of the factor, and each as a number of 64 bits
   abbrev factor : Word w32
   factor = counted m 16 few (lit< tt)

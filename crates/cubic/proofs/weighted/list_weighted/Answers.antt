@@ -1,5 +1,5 @@
 -- The weights and the sum of a turn are those of its numerator.
-use Rattle.std.proofs.Common.{◌≡◌, ◌∙◌, ap, ℕ, ◌<◌, arith, List, length, ℤ, w32, w64, FitsSigned, to_z, of_z}
+use Rattle.std.proofs.Common.{◌≡◌, ◌∙◌, ap, arith, List, ℤ, w32, w64, FitsSigned, to_z, of_z}
 use borrow.Author.Rules.{sfits_of}
 use mir.Facts.{to_z-of_z}
 use Rattle.bspline.specs.Values.{dot}
@@ -7,12 +7,8 @@ use Rattle.bspline.proofs.Bounds.{all_weaken}
 use Rattle.bspline.proofs.Weights.{weights_light}
 use Rattle.sums.specs.Sums.{listed}
 use Rattle.cubic.proofs.SmallSums.{sum_small}
-use Rattle.cubic.proofs.Tables.{Tabled, tabled_none, tabled_long, tabled_more}
+use Rattle.cubic.proofs.Tables.{tabled_none, tabled_more}
 use Rattle.cubic.proofs.weighted.list_weighted.Goals as goal
-
--- in a turn there is still room
-below : {f : ℕ → ℤ} {n : ℕ} {values : List ℤ} {j : ℕ} → Tabled f n values j → j < length values → j < n
-below t h = omega (arith, tabled_long t)
 
 -- the machine's sum is that of the weights
 sum_is : {z : ℤ} {w u : List ℤ} (c : List ℤ) → FitsSigned w64 z → z ≡ dot w c → w ≡ u → to_z w64 (of_z w64 z) ≡ dot u c
@@ -24,17 +20,16 @@ loop-j-init c = tabled_none _ _
 pub dot-requires : goal.dot-requires
 dot-requires c =
     let p = c.requires in
-    let inside = below c.loop-j.invariant c.loop-j-test.true in
     record { light = weights_light _ _ c.weights_at.ensures p.factor (omega (arith, p.room)); small = all_weaken p.light p.small }
 
-pub round_by-requires : goal.round_by-requires
-round_by-requires c =
+pub round-requires : goal.round-requires
+round-requires c =
     let p = c.requires in
-    rw (to_z-of_z c.ranges.divisor, sum_is (listed c.args.c) (sfits_of c.dot.type_inv) c.dot.ensures c.weights_at.ensures)
-    (record { above = p.above; unit = p.unit; size = sum_small p _ (below c.loop-j.invariant c.loop-j-test.true) })
+    rw (sum_is (listed c.args.c) (sfits_of c.dot.type_inv) c.dot.ensures c.weights_at.ensures)
+    (record { divisor = p.divisor; size = sum_small p _ c.loop-j-test.true })
 
 pub loop-j-preserved : goal.loop-j-preserved
 loop-j-preserved c =
-    let r : FitsSigned w32 c.round_by.result = sfits_of c.round_by.type_inv in
-    let e = rw (sum_is (listed c.args.c) (sfits_of c.dot.type_inv) c.dot.ensures c.weights_at.ensures) at c.round_by.ensures in
-    rw (to_z-of_z r) (tabled_more c.round_by.result c.loop-j.invariant (below c.loop-j.invariant c.loop-j-test.true) e)
+    let r : FitsSigned w32 c.round.result = sfits_of c.round.type_inv in
+    let e = rw (sum_is (listed c.args.c) (sfits_of c.dot.type_inv) c.dot.ensures c.weights_at.ensures) at c.round.ensures in
+    rw (to_z-of_z r) (tabled_more c.round.result c.loop-j.invariant c.loop-j-test.true e)

@@ -6,8 +6,7 @@ use lib.Seq.{length-take-le}
 use Rattle.bspline.specs.Lists.{tabulate}
 use Rattle.bspline.proofs.FilledLists.{filled_none, filled_all}
 use Rattle.bspline.proofs.Lists.{tabulate_length, tabulate_same}
-use Rattle.sums.specs.Weights.{weighed}
-use Rattle.columns.specs.Columns.{column_sum}
+use Rattle.columns.specs.Bands.{sums_along}
 use Rattle.places.specs.Places.{values_between}
 use Rattle.enlarge.specs.Rows.{value_along}
 use Rattle.enlarge.proofs.Parts.{front_long, two_parts}
@@ -31,50 +30,52 @@ from_start : (m width : ℕ) (f : ℕ → ℤ) (d count : ℕ) → 0 < m → val
 from_start m width f d count some =
     between_row m width f 0 d count some ∙ tabulate_same _ _ 0 count (λ j h. ap (value_along m width f d) (omega (arith, zero-mul m)))
 
-pub returns-then-width-eq1 : goal.returns-then-width-eq1
-returns-then-width-eq1 c =
+pub returns-then-band-eq1 : goal.returns-then-band-eq1
+returns-then-band-eq1 c =
     let a = c.args in
-    let value = value_along a.m a.width (column_sum (weighed a.w) a.starts a.c.now) (576 * a.m ^ 6) in
-    let none : a.width - 1 ≡ 0 = omega arith in
-    let long = c.requires.1 ∙ sym (tabulate_length value 0 ((a.width - 1) * a.m)) in
-    filled_all (filled_none (tabulate value 0 ((a.width - 1) * a.m)) a.values.now long)
-    (omega (arith, long, c.requires.1, ap (λ k. k * a.m) none, zero-mul a.m))
+    let value = value_along a.m.value a.band.width (sums_along a.band) (576 * a.m.value ^ 6) in
+    let none : a.band.width - 1 ≡ 0 = omega arith in
+    let long = c.requires.1 ∙ sym (tabulate_length value 0 ((a.band.width - 1) * a.m.value)) in
+    filled_all (filled_none (tabulate value 0 ((a.band.width - 1) * a.m.value)) a.values.now long)
+    (omega (arith, long, c.requires.1, ap (λ k. k * a.m.value) none, zero-mul a.m.value))
 
 pub list_between-requires : goal.list_between-requires
 list_between-requires c =
     let a = c.args in
     let ready = c.requires.0 in
-    let inside : (a.width - 2) * a.m ≤ length a.values.now = omega (arith, parts a.width a.m ready.some c.if-width-eq1.false, c.requires.1) in
-    (listable ready _ _ _ _ (omega (arith, ready.some, c.if-width-eq1.false)) c.column_sums-left.ensures.1 (length-take-le _ _ inside), ready.factor)
+    let m = a.m.value in
+    let inside : (a.band.width - 2) * m ≤ length a.values.now = omega (arith, parts a.band.width m ready.some c.if-band-eq1.false, c.requires.1) in
+    listable ready _ _ _ _ (omega (arith, ready.some, c.if-band-eq1.false)) c.sums-left.ensures.1 (length-take-le _ _ inside)
 
 pub list_between-requires-2 : goal.list_between-requires-2
 list_between-requires-2 c =
     let a = c.args in
     let ready = c.requires.0 in
-    let inner = a.width - 2 in
-    let joined = parts a.width a.m ready.some c.if-width-eq1.false in
-    let inside : inner * a.m ≤ length a.values.now = omega (arith, joined, c.requires.1) in
-    let left : length c.list_between.new.values ≡ inner * a.m = c.list_between.auto.values ∙ length-take-le _ _ inside in
-    let right = room (inner * a.m) a.m a.values.now _ (c.requires.1 ∙ sym joined) left in
-    (listable ready _ _ _ _ (omega (arith, ready.some, c.if-width-eq1.false)) c.column_sums-right.ensures.1 (right ∙ omega arith), ready.factor)
+    let inner = a.band.width - 2 in
+    let joined = parts a.band.width a.m.value ready.some c.if-band-eq1.false in
+    let inside : inner * a.m.value ≤ length a.values.now = omega (arith, joined, c.requires.1) in
+    let left : length c.list_between.new.values ≡ inner * a.m.value = c.list_between.auto.values ∙ length-take-le _ _ inside in
+    let right = room (inner * a.m.value) a.m.value a.values.now _ (c.requires.1 ∙ sym joined) left in
+    listable ready _ _ _ _ (omega (arith, ready.some, c.if-band-eq1.false)) c.sums-right.ensures.1 (right ∙ omega arith)
 
 pub returns : goal.returns
 returns c =
     let a = c.args in
+    let m = a.m.value in
     let ready = c.requires.0 in
-    let inner = a.width - 2 in
-    let numbers = column_sum (weighed a.w) a.starts a.c.now in
-    let divisor = 576 * a.m ^ 6 in
-    let value = value_along a.m a.width numbers divisor in
-    let joined = parts a.width a.m ready.some c.if-width-eq1.false in
-    let size : length a.values.now ≡ inner * a.m + a.m = c.requires.1 ∙ sym joined in
-    let inside : inner * a.m ≤ length a.values.now = omega arith in
+    let inner = a.band.width - 2 in
+    let numbers = sums_along a.band in
+    let divisor = 576 * m ^ 6 in
+    let value = value_along m a.band.width numbers divisor in
+    let joined = parts a.band.width m ready.some c.if-band-eq1.false in
+    let size : length a.values.now ≡ inner * m + m = c.requires.1 ∙ sym joined in
+    let inside : inner * m ≤ length a.values.now = omega arith in
     let left =
-    c.list_between.ensures.listed (around a.width numbers 0) (from_left a.width numbers inner _ c.column_sums-left.ensures.0 (omega (arith, ready.some, c.if-width-eq1.false)))
-    ∙ from_start a.m a.width numbers divisor _ ready.factor.some
+    c.list_between.ensures.listed (around a.band.width numbers 0) (from_left a.band.width numbers inner _ c.sums-left.ensures.0 (omega (arith, ready.some, c.if-band-eq1.false)))
+    ∙ from_start m a.band.width numbers divisor _ a.m.within.some
     ∙ ap (tabulate value 0) (length-take-le _ _ inside) in
     let right =
-    c.list_between-2.ensures.listed (around a.width numbers inner) (at_right a.width numbers inner _ c.column_sums-right.ensures.0 (omega (arith, ready.some, c.if-width-eq1.false)))
-    ∙ between_row a.m a.width numbers inner divisor _ ready.factor.some
-    ∙ ap (tabulate (λ j. value (inner * a.m + j)) 0) (room (inner * a.m) a.m a.values.now _ size (ap length left ∙ tabulate_length value 0 (inner * a.m))) in
-    two_parts value (inner * a.m) a.m a.values.now _ _ size left right ∙ ap (tabulate value 0) joined
+    c.list_between-2.ensures.listed (around a.band.width numbers inner) (at_right a.band.width numbers inner _ c.sums-right.ensures.0 (omega (arith, ready.some, c.if-band-eq1.false)))
+    ∙ between_row m a.band.width numbers inner divisor _ a.m.within.some
+    ∙ ap (tabulate (λ j. value (inner * m + j)) 0) (room (inner * m) m a.values.now _ size (ap length left ∙ tabulate_length value 0 (inner * m))) in
+    two_parts value (inner * m) m a.values.now _ _ size left right ∙ ap (tabulate value 0) joined

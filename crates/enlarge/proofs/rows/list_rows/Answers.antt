@@ -19,36 +19,30 @@ inside m d c values y across down i filled a b h =
 
 pub loop-y-init : goal.loop-y-init
 loop-y-init c =
-    let a = c.args in
-    record {
-      within = omega arith;
-      filled = rw zero-mul (filled_none _ _ (c.requires.1 ∙ sym (enlarged_length a.m (sides a.width a.height) a.c.now)));
-    }
+    let a = c.args in rw zero-mul (filled_none _ _ (c.requires.1 ∙ sym (enlarged_length _ (sides a.width a.height) a.c.now)))
 
 pub slice_bounds-list_row_at-end : goal.slice_bounds-list_row_at-end
 slice_bounds-list_row_at-end c =
     let a = c.args in
     let each = c.zoom_count-across.result in
-    inside a.m (sides a.width a.height) a.c.now c.loop-y.values c.loop-y.y each c.zoom_count-down.result _ c.loop-y.invariant.filled (omega arith) (omega arith)
+    inside _ (sides a.width a.height) a.c.now c.loop-y.values c.loop-y.y each c.zoom_count-down.result _ c.loop-y.invariant (omega arith) (omega arith)
     c.loop-y-test.true
 
 pub loop-y-preserved : goal.loop-y-preserved
 loop-y-preserved c =
     let a = c.args in
+    let m = a.m.value in
     let d = sides a.width a.height in
-    let all = enlarged_values a.m d a.c.now in
+    let all = enlarged_values m d a.c.now in
     let y = c.loop-y.y in
     let across = c.zoom_count-across.result in
-    let wide : across ≡ zoom_count a.m a.width = omega arith in
-    let room = inside a.m d a.c.now c.loop-y.values y across c.zoom_count-down.result _ c.loop-y.invariant.filled (omega arith) (omega arith) c.loop-y-test.true in
-    let value : ℕ → ℤ = λ x. value_in_picture a.m d a.c.now (zoom_position a.m x) (zoom_position a.m y) in
+    let wide : across ≡ zoom_count m a.width = omega arith in
+    let room = inside m d a.c.now c.loop-y.values y across c.zoom_count-down.result _ c.loop-y.invariant (omega arith) (omega arith) c.loop-y-test.true in
+    let value : ℕ → ℤ = λ x. value_in_picture m d a.c.now (zoom_position m x) (zoom_position m y) in
     let row : (x : ℕ) → x < across → value x ≡ at all (y * across + x) =
     λ x b.
-    sym (enlarged_at a.m d a.c.now x y (omega (arith, wide)) (omega arith))
+    sym (enlarged_at m d a.c.now x y (omega (arith, wide)) (omega arith))
     ∙ ap (λ n. at all (y * n + x)) (sym wide) in
-    record {
-      within = omega arith;
-      filled = rw (add-mul y 1 across, one-mul across)
-          (filled_table (y * across + across) _ _ c.loop-y.invariant.filled (omega arith) room (λ x b. row x (omega arith))
-          (c.list_row_at.ensures ∙ ap (λ n. tabulate value 0 n) (sym (mid_len (y * across) (y * across + across) c.loop-y.values room ∙ omega (arith, wide)))));
-    }
+    rw (add-mul y 1 across, one-mul across)
+    (filled_table (y * across + across) _ _ c.loop-y.invariant (omega arith) room (λ x b. row x (omega arith))
+    (c.list_row_at.ensures ∙ ap (λ n. tabulate value 0 n) (sym (mid_len (y * across) (y * across + across) c.loop-y.values room ∙ omega (arith, wide)))))

@@ -1,6 +1,5 @@
--- The lines before line i hold their coefficients and the others what they held, so the next line can be filtered; work keeps its length. How many
--- lines are left is the measure.
-use Rattle.std.proofs.Common.{◌≡◌, length, ◌+◌, ◌-◌, ◌*◌}
+-- The lines before line i hold their coefficients and the others what they held, so the next line can be filtered; work keeps its length.
+use Rattle.std.proofs.Common.{◌≡◌, length, ◌+◌, ◌*◌}
 use Rattle.bspline.specs.Recursions.{margin}
 use Rattle.filter.proofs.LineLoop.{FirstLines}
 use Rattle.filter.proofs.lines.filter_lines.Given as goal
@@ -10,6 +9,3 @@ invariant-loop-i l = record {
   first : FirstLines l.count l.between l.step l.n l.initial.c l.c l.i;
   long : length l.work ≡ l.n + 2 * margin;
 }
-
-abbrev pub decreases-loop-i : goal.decreases-loop-i
-decreases-loop-i l = l.count - l.i

@@ -3,11 +3,8 @@ use Rattle.std.proofs.Common.{w64, FitsSigned, ◌-◌, arith, rules}
 use borrow.Author.Rules.{sfits_of}
 use mir.Facts.{to_z-of_z}
 use Rattle.bspline.specs.Lists.{at}
-use Rattle.filter.proofs.Recursions.{anticausal_none, anticausal_more}
+use Rattle.filter.proofs.Recursions.{anticausal_more}
 use Rattle.filter.proofs.passes.anticausal_margin.Goals as goal
-
-pub loop-i-init : goal.loop-i-init
-loop-i-init c = record { reached = anticausal_none c.args.work.now; above = omega arith }
 
 pub loop-i-preserved : goal.loop-i-preserved
 loop-i-preserved c =

@@ -15,10 +15,10 @@ count n work h = delivered_length n (backward work) (omega (arith, backward_leng
 
 pub loop-i-init : goal.loop-i-init
 loop-i-init c =
-    let C = delivered c.args.n (backward c.args.work.now) in
+    let C = delivered c.args.line.n (backward c.args.work.now) in
     record {
       reached = rw (to_z-of_z c.ranges.last) c.requires.1;
-      done = rw (count c.args.n c.args.work.now c.requires.0) at (stored_none c.args.from c.args.step C c.args.c.now);
+      done = rw (count c.args.line.n c.args.work.now c.requires.0) at (stored_none c.args.line.from c.args.line.step C c.args.c.now);
       within = omega arith;
     }
 
@@ -43,15 +43,15 @@ coefficient_of-requires c = rw (to_z-of_z (b_fits c)) (b_next c).small
 
 pub loop-i-preserved : goal.loop-i-preserved
 loop-i-preserved c =
-    let a = c.before in
+    let a = c.before.before in
     let k = j a in
     let e : suc k ≡ c.loop-i.i = omega arith in
     let g : FitsSigned w32 c.coefficient_of.result = sfits_of c.coefficient_of.type_inv in
-    let l : k < c.args.n = omega arith in
-    let C : c.coefficient_of.result ≡ at (delivered c.args.n (backward c.args.work.now)) k =
-    (rw (to_z-of_z (b_fits a)) at c.coefficient_of.ensures) ∙ sym (delivered_from c.args.n k (b_next a) l) in
+    let l : k < c.args.line.n = omega arith in
+    let C : c.coefficient_of.result ≡ at (delivered c.args.line.n (backward c.args.work.now)) k =
+    (rw (to_z-of_z (b_fits a)) at c.coefficient_of.ensures) ∙ sym (delivered_from c.args.line.n k (b_next a) l) in
     record {
       reached = rw (to_z-of_z (b_fits a)) (b_next a);
-      done = rw (to_z-of_z g, C) (stored_more {c = c.loop-i.c} k (rw e c.loop-i.invariant.done) (omega (arith, count c.args.n c.args.work.now c.requires.0)));
+      done = rw (to_z-of_z g, C, c.place.ensures) (stored_more {c = c.loop-i.c} k (rw e c.loop-i.invariant.done) (omega (arith, count c.args.line.n c.args.work.now c.requires.0)));
       within = omega arith;
     }

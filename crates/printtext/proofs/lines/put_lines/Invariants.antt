@@ -1,10 +1,7 @@
--- The lines of the values before i are put, each in at most as many bytes as the longest line has, and p is the position of the i-th value.
-use Rattle.std.proofs.Common.{◌-◌}
+-- The lines of the values before this one are put, each in at most as many bytes as the longest line has, and p is this one's position.
 use Rattle.printtext.proofs.DoneLines.{Done}
+use Rattle.printtext.specs.Lines.{between}
 use Rattle.printtext.proofs.lines.put_lines.Given as goal
 
-abbrev pub invariant-loop-i : goal.invariant-loop-i
-invariant-loop-i l = Done l.values l.from l.to l.m l.fn.out l.out l.end l.p l.i
-
-abbrev pub decreases-loop-i : goal.decreases-loop-i
-decreases-loop-i l = l.to - l.i
+abbrev pub invariant-loop-v : goal.invariant-loop-v
+invariant-loop-v l = Done (between l.from l.to l.values) l.from l.m l.fn.out l.out l.end l.p l.v-index

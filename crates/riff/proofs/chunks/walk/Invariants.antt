@@ -1,11 +1,11 @@
--- All chunks are those from the place on, with the format kept so far.
-use Rattle.std.proofs.Common.{length, ◌-◌}
+-- All chunks are those that are left, with the format kept so far.
+use Rattle.std.proofs.Common.{length}
 use Rattle.riff.proofs.Walking.{Walking}
 use Rattle.riff.proofs.chunks.walk.Given as goal
 
-abbrev pub invariant-loop-at : goal.invariant-loop-at
-invariant-loop-at l = Walking l.bytes l.at l.format
+abbrev pub invariant-loop-chunk : goal.invariant-loop-chunk
+invariant-loop-chunk l = Walking l.bytes l.rest l.format
 
 -- what is left
-abbrev pub decreases-loop-at : goal.decreases-loop-at
-decreases-loop-at l = length l.bytes - l.at
+abbrev pub decreases-loop-chunk : goal.decreases-loop-chunk
+decreases-loop-chunk l = length l.rest

@@ -1,5 +1,5 @@
 -- The cubic at a numerator is the weighted sum there, which is at most 2^27 divisors, and the row value is rounded from it.
-use Rattle.std.proofs.Common.{ap, ◌∙◌, ℕ, ◌*◌, ◌^◌, ◌≤◌, arith, ℤ, pos, List, length}
+use Rattle.std.proofs.Common.{ap, ◌∙◌, ℕ, ◌*◌, ◌^◌, ◌≤◌, arith, ℤ, pos, List, length, None}
 use native.Mathlib.Nat.{one-le-pow, mul-le-mul}
 use Rattle.integers.specs.Rounding.{round}
 use Rattle.integers.proofs.Parts.{lt_of}
@@ -15,11 +15,13 @@ use Rattle.zoom.proofs.listing.list_between.Goals as goal
 
 -- the cubic of four coefficients is at most 2^27 divisors at each numerator that there is room for
 fillable : {m : ℕ} {four : List ℤ} {f : Cubic} {values : List ℤ} → Factor m → AllWithin (2 ^ 31) four → CubicOf m four f → CubicSmall f → length values ≤ m →
-    Fillable f (pos (96 * m ^ 3)) 0 values
+    Fillable f (record { by = pos (96 * m ^ 3); unit = None }) values
 fillable {m} {four} {f} {values} factor within of small room = record {
   small = small;
-  above = lt_of (omega (arith, one-le-pow 3 m factor.some));
-  unit = omega (arith, cubed m, mul-le-mul (mul-le-mul factor.small factor.small) factor.small);
+  divisor = record {
+    above = lt_of (omega (arith, one-le-pow 3 m factor.some));
+    unit = omega (arith, cubed m, mul-le-mul (mul-le-mul factor.small factor.small) factor.small);
+  };
   room = omega (arith, factor.small);
   size = λ j h. rw (of.sums j) (omega (arith, weighted_within m j (2 ^ 31) four (omega arith) within));
 }
@@ -27,11 +29,11 @@ fillable {m} {four} {f} {values} factor within of small room = record {
 pub list_cubic-requires : goal.list_cubic-requires
 list_cubic-requires c =
     let p = c.requires in
-    (fillable p.factor c.support.ensures.1 c.cubic_of-f.ensures.0 c.cubic_of-f.ensures.1 p.room, p.factor)
+    fillable c.args.m.within c.support.ensures.1 c.cubic_of-f.ensures.0 c.cubic_of-f.ensures.1 p.room
 
 pub returns : goal.returns
 returns c =
-    let m = c.args.m in
+    let m = c.args.m.value in
     c.list_cubic.ensures
     ∙ tabulate_same _ _ 0 _ (λ j h.
     ap (λ (x : ℤ). round x (96 * m ^ 3)) (c.cubic_of-f.ensures.0.sums j)
