@@ -1,15 +1,18 @@
--- The sides of a picture for which the test of the refusal fails are within their limits. Assumes nothing.
+-- A factor and the sides of a picture for which the test of the refusal fails are within their limits. Assumes nothing.
 use mathlib.Core.Bool.{false}
 use mathlib.Core.Path.{◌≡◌}
 use Prim.Native.Nat.{ℕ, ◌-◌, ◌≤◌, ◌^◌}
 use native.Mathlib.Nat.{mul-le-mul}
 use native.Mathlib.Omega.{arith}
-use Rattle.bspline.specs.Limits.{greatest_pitch}
+use Rattle.bspline.specs.Limits.{greatest_pitch, greatest_factor}
 use Rattle.bspline.specs.PictureLayout.{Shape, area, extent}
-use Rattle.bspline.specs.Refusals.{bad_sides}
+use Rattle.bspline.specs.Refusals.{outside, bad_sides}
 use Rattle.bspline.specs.Values.{zoom_count, enlarged}
-use Rattle.bspline.proofs.Refusals.{sides_within}
+use Rattle.bspline.proofs.Refusals.{one_to, sides_within}
 use Rattle.answers.specs.Limits.{Factor, GoodSides}
+
+pub factor : (m : ℕ) → outside greatest_factor m ≡ false → Factor m
+factor m e = let f = one_to greatest_factor m e in record { some = f.0; small = f.1 }
 
 pub good_sides : (d : Shape) → bad_sides d ≡ false → GoodSides d
 good_sides d e =

@@ -1,11 +1,12 @@
--- Laws of bytes put into a buffer: what is before and after them, two runs of bytes one after the other, and one byte stored. Bytes put at
+-- Laws of bytes put into a buffer: what is before and after them, two runs of bytes one after the other, one byte stored and a part lent. Bytes put at
 -- a place are the kit's `paste` of all of them. Assumes nothing.
 use mathlib.Core.List.{List, [], ◌∷◌, ◌++◌, append_assoc}
 use mathlib.Core.Path.{◌≡◌, refl, sym, ap, ap₂, ◌∙◌}
 use Prim.Native.Nat.{ℕ, ◌+◌, ◌≤◌, ◌<◌}
-use native.Mathlib.Nat.{le_refl, add-zero, add_assoc}
+use native.Mathlib.Nat.{le_refl, zero-add, add-zero, add_assoc}
 use native.Mathlib.Numerals.{add-one}
 use native.Mathlib.Omega.{arith}
+use borrow.Rule.Slice.PartMut.{put_mid}
 use lib.ListN.{length, take, drop, set, length-append, take-append-drop}
 use lib.Seq.{take-length, drop-drop, set_split, paste, length-paste, take-paste, drop-paste}
 use Rattle.decimal.specs.Buffers.{put, Put}
@@ -70,6 +71,17 @@ put_byte at b x h = record {
   ends = refl;
 }
 
--- bytes that are put at the start stand within the buffer
+-- a part is lent, and as many bytes come back
+pub put_part : (at k : ℕ) (x part : List ℕ) → length part ≡ k → Put at part x (put_mid at k x part) (at + k)
+put_part at k x part e = record {
+  all = ap (λ (l : List ℕ). take at x ++ (part ++ l)) (drop-drop k at x ∙ ap (λ (n : ℕ). drop (at + n) x) (sym e));
+  ends = ap (λ (n : ℕ). at + n) (sym e);
+}
+
+-- bytes are put at the start
+pub put_start : (a x : List ℕ) → Put 0 a x (a ++ drop (length a) x) (length a)
+put_start a x = record { all = ap (λ (n : ℕ). a ++ drop n x) (sym (zero-add (length a))); ends = sym (zero-add (length a)) }
+
+-- and they stand within the buffer
 pub put_start_fits : (bytes buffer : List ℕ) → length bytes ≤ length (put 0 bytes buffer)
 put_start_fits bytes buffer = omega (arith, length-append bytes (drop (0 + length bytes) buffer))

@@ -4,7 +4,7 @@ use mathlib.Core.List.{List, [], ◌∷◌, ◌++◌}
 use mathlib.Core.Logic.{◌⊎◌, inl, inr}
 use mathlib.Core.Path.{◌≡◌, refl, sym, ap, ◌∙◌}
 use Prim.Native.Nat.{ℕ, zero, suc, ◌+◌, ◌-◌, ◌/◌, ◌%◌, ◌^◌, ◌≤◌, ◌<◌}
-use native.Mathlib.Nat.{le_refl, eq-or-lt_of_le, pow-le-pow_right}
+use native.Mathlib.Nat.{le_refl, eq-or-lt_of_le, pow-le-pow_right, lt_of_not-le}
 use native.Mathlib.Numerals.{add-one}
 use native.Mathlib.Omega.{arith}
 use borrow.Author.Tests.{ltb-true, ltb-false, lt-ltb, le-ltb}
@@ -78,6 +78,10 @@ signed_short (pos n) = omega (arith, decimal_length n, most 9 n)
 signed_short (negsuc n) = omega (arith, decimal_length (suc n), most 9 (suc n))
 
 -- ---- counting upward, a power of ten to a turn
+-- a power of ten that is below another has the smaller exponent
+pub less : (k m : ℕ) → 10 ^ k < 10 ^ m → k < m
+less k m h = lt_of_not-le (λ over. let more : 10 ^ m ≤ 10 ^ k = pow-le-pow_right (omega arith) over in omega arith)
+
 -- the count at which a number is below the power of ten, and not below the one before
 pub found : (k n : ℕ) → 0 < k → k ≤ 10 → n < 10 ^ k → (1 < k → 10 ^ (k - 1) ≤ n) → k ≡ places n
 found zero n some few small big = absurd (omega arith)

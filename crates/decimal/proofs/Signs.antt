@@ -2,12 +2,15 @@
 use mathlib.Core.Bool.{true, false}
 use mathlib.Core.List.{List, ◌∷◌}
 use mathlib.Core.Path.{◌≡◌, refl}
-use Prim.Native.Nat.{ℕ, suc, ◌+◌, ◌≤◌}
+use Prim.Native.Nat.{ℕ, suc, ◌+◌, ◌≤◌, ◌<◌, ◌^◌}
 use native.Mathlib.Omega.{arith}
 use borrow.Author.Tests.{ltb-true}
 use lib.IntN.{ℤ, pos, negsuc, nat_abs}
 use lib.ListN.{length, set, length-set}
 use lib.Signed.{lt_z}
+use mir.Syntax.{w32}
+use mir.Val.{SFits}
+use Rattle.integers.proofs.Absolute.{abs_fits}
 use Rattle.decimal.specs.Buffers.{Put}
 use Rattle.decimal.specs.Decimal.{signed_decimal, field, signed_field}
 use Rattle.decimal.proofs.Buffers.{put_then, put_byte}
@@ -38,3 +41,7 @@ pub negative_room : (v : ℤ) (end at b : ℕ) {size : ℕ} (x : List ℕ) → s
 negative_room v end at b {size} x s minus room =
     let few : at + suc (length (field (nat_abs v) end)) ≤ length x = rw (negative v end minus) at room in
     rw s (simp length-set (omega arith))
+
+-- the size of every 32-bit number has at most ten digits
+pub size_small : {size : ℕ} {v : ℤ} → size ≡ nat_abs v → SFits w32 v → size < 10 ^ 10
+size_small {size} {v} s f = omega (arith, s, abs_fits v f)

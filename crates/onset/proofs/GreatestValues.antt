@@ -2,14 +2,14 @@
 use mathlib.Core.Bool.{Bool, true, false, cond}
 use mathlib.Core.List.{List, [], ◌∷◌}
 use mathlib.Core.Path.{◌≡◌, refl, subst}
-use Prim.Native.Nat.{ℕ, zero, suc, ◌+◌, ◌-◌, ◌≤◌, ◌<◌}
+use Prim.Native.Nat.{ℕ, zero, suc, ◌+◌, ◌-◌, ◌≤◌, ◌<◌, zero-le}
 use native.Mathlib.Decide.{dec_lt}
 use native.Mathlib.Omega.{arith}
 use borrow.Author.Count.{below_more}
 use lib.IntN.{ℤ}
 use lib.ListN.{length}
 use Rattle.std.specs.Int.{int_max}
-use lib.Signed.{lt_z, ◌≤ℤ◌}
+use lib.Signed.{lt_z, ◌≤ℤ◌, ≤ℤ_refl}
 use Rattle.integers.proofs.Laws.{≤ℤ_antisym, ≤ℤ_trans}
 use Rattle.integers.proofs.Linear.{reify, read, show}
 use Rattle.bspline.specs.Lists.{at}
@@ -99,6 +99,15 @@ pub record Best (l : List ℤ) (half : ℕ) (best : ℤ) (i : ℕ) : Type 0 wher
   pub high : (k : ℕ) → k < i → at l (half + k) ≤ℤ best
   pub last : at l (length l - 1) ≤ℤ best
   pub one : OneOf l best
+
+pub best_first : (l : List ℤ) (half : ℕ) → 0 < length l → Best l half (at l (length l - 1)) 0
+best_first l half h = record {
+  inside = zero-le;
+  low = λ k e. absurd (omega arith);
+  high = λ k e. absurd (omega arith);
+  last = ≤ℤ_refl (at l (length l - 1));
+  one = (length l - 1, omega arith, refl);
+}
 
 pub best_more : {l : List ℤ} {half : ℕ} {best : ℤ} {i : ℕ} → Best l half best i → i < half → half + half ≤ length l →
     Best l half (greater best (greater (at l i) (at l (half + i)))) (i + 1)

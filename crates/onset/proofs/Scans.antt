@@ -4,7 +4,7 @@ use mathlib.Core.List.{List}
 use mathlib.Core.Option.{some, none}
 use mathlib.Core.Path.{◌≡◌, subst}
 use Prim.Native.Nat.{ℕ, ◌+◌, ◌-◌, ◌≤◌, ◌<◌, zero-le}
-use native.Mathlib.Decide.{dec_lt}
+use native.Mathlib.Decide.{dec_le, dec_lt}
 use native.Mathlib.Omega.{arith}
 use lib.IntN.{ℤ}
 use lib.ListN.{length}
@@ -25,6 +25,19 @@ pub record Reached (t : ℤ) (l : List ℤ) (place left : ℕ) : Type 0 where
 
 pub scanned_none : (t : ℤ) (l : List ℤ) → Scanned t l 0
 scanned_none t l = record { inside = zero-le; none_before = λ p h. absurd (omega arith) }
+
+pub reached_none : (t : ℤ) (l : List ℤ) (place : ℕ) → Reached t l place run_length
+reached_none t l place = record { few = omega arith; reach = λ i h k. absurd (omega arith) }
+
+pub reached_more : {t : ℤ} {l : List ℤ} {place left : ℕ} → Reached t l place left → 0 < left → t ≤ℤ at l (place + (left - 1)) → Reached t l place (left - 1)
+reached_more {t} {l} {place} {left} r more e = record { few = omega (arith, r.few); reach = each }
+  where
+    each : (i : ℕ) → left - 1 ≤ i → i < run_length → t ≤ℤ at l (place + i)
+    each i h k = go (dec_le left i)
+      where
+        go : Dec (left ≤ i) → t ≤ℤ at l (place + i)
+        go (yes y) = r.reach i y k
+        go (no n) = let same : left - 1 ≡ i = omega (arith, n) in subst (λ (j : ℕ). t ≤ℤ at l (place + j)) same e
 
 -- a value misses the threshold
 pub scanned_miss : {t : ℤ} {l : List ℤ} {place : ℕ} (i : ℕ) → Scanned t l place → place + run_length ≤ length l → i < run_length → at l (place + i) <ℤ t →

@@ -2,12 +2,14 @@
 use mathlib.Core.List.{List}
 use mathlib.Core.Path.{◌≡◌, refl, sym, ap, ◌∙◌}
 use Prim.Native.Nat.{ℕ, ◌+◌, ◌-◌, ◌*◌, ◌/◌, ◌%◌, ◌≤◌, ◌<◌}
-use native.Mathlib.Nat.{add-zero, add_assoc, div-add-mod'}
+use native.Mathlib.Nat.{add-zero, add_assoc, div-add-mod', mod-lt}
 use native.Mathlib.Omega.{arith}
 use lib.IntN.{ℤ, pos}
 use borrow.Rule.Slice.PartMut.{mid_len}
 use lib.ListN.{length, get_or, take}
+use Rattle.bspline.specs.Limits.{longest_row}
 use Rattle.bspline.specs.Values.{Position as Place, zoom_position}
+use Rattle.bspline.proofs.Zoom.{position_inside}
 use Rattle.answers.specs.Answers.{placed}
 use Rattle.answers.specs.declared.Position.{Position}
 use Rattle.decimal.specs.Buffers.{Put}
@@ -37,6 +39,16 @@ module _ (values : List ℤ) (to : ℕ) {from m : ℕ} {out₀ out : List ℕ} {
     (more : d < length (between from to values)) where
   before_end : d < to - from
   before_end = rw (mid_len from to values (omega arith)) at more
+
+  -- the position is one of the longest row
+  pub inside : (p.k < longest_row) × (p.j < m)
+  inside =
+      let k : p.k ≡ (from + d) / m = ap (λ (q : Place). q.k) done.here in
+      let j : p.j ≡ (from + d) % m = ap (λ (q : Place). q.j) done.here in
+      (rw k (position_inside m longest_row (from + d) asked.some (omega arith) (omega (arith, before_end))), rw j (mod-lt (from + d) asked.some))
+
+  pub room : end + longest_line ≤ length out
+  room = omega (arith, before_end)
 
   -- one line more
   pub done_more : {after : List ℕ} {stop : ℕ} {q : Position} →

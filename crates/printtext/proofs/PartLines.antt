@@ -6,9 +6,11 @@ use native.Mathlib.Omega.{arith, min_cases}
 use lib.IntN.{ℤ}
 use lib.ListN.{length, take, drop, length-drop, drop_of_length-le}
 use lib.Seq.{length-take-le, take_all, take-nil, take-length, take-take}
+use Rattle.bspline.specs.Limits.{longest_row, greatest_factor}
+use Rattle.bspline.specs.Values.{zoom_count}
 use Rattle.judgetext.specs.Outcomes.{row, refused}
-use Rattle.printtext.specs.Lines.{between}
-use Rattle.printtext.specs.Output.{value_lines, lines_of_part, part}
+use Rattle.printtext.specs.Lines.{between, Lines}
+use Rattle.printtext.specs.Output.{value_lines, block, lines_of_part, part}
 
 -- of so many lines, part p has those from the first number up to the second
 pub record Span (p count from to : ℕ) : Type 0 where
@@ -56,6 +58,18 @@ pub part_lines : {p count from to : ℕ} → Span p count from to → (values : 
 part_lines {p} {count} {from} {to} s values h n m =
     let held = subst (λ (k : ℕ). Span p k from to) (sym (length-take-le count values h)) s in
     lines_all p (take count values) held n m ∙ ap (value_lines m from) (between_first from (to - from) count values (omega arith))
+
+-- ---- they fit a block
+pub part_fits : {p count from to m length bytes : ℕ} → Span p count from to → 0 < m → m ≤ greatest_factor → count ≤ zoom_count m longest_row →
+    count ≤ length → block ≤ bytes → Lines m from to length bytes
+part_fits s some small inside held room = record {
+  some = some;
+  small = small;
+  ordered = omega arith;
+  held = omega arith;
+  inside = omega arith;
+  room = omega arith;
+}
 
 -- ---- a refusal has one part
 pub none_later : (b k : ℕ) → (b ≡ 0 → ⊥) → part b (refused k) ≡ []

@@ -2,7 +2,7 @@
 use mathlib.Core.List.{List, [], ◌∷◌, ◌++◌, append_assoc, append-nil}
 use mathlib.Core.Path.{◌≡◌, sym, ap, ap₂, ◌∙◌}
 use Prim.Native.Nat.{ℕ, zero, suc, ◌+◌, ◌*◌, ◌<◌}
-use native.Mathlib.Nat.{zero-add, add-zero, suc-add, add_assoc}
+use native.Mathlib.Nat.{zero-add, add-zero, suc-add, add_assoc, add-mul}
 use native.Mathlib.Omega.{arith}
 use lib.IntN.{ℤ}
 use lib.ListN.{length, take, drop, get_or}
@@ -35,6 +35,11 @@ lines_more m from d vs z h =
     ∙ ap (λ (l : List ℤ). value_lines m from (take d vs) ++ value_lines m (from + d) (take 1 l)) (drop-cons vs d z h)
     ∙ ap (λ (l : List ℕ). value_lines m from (take d vs) ++ l) (append-nil line)
 
--- the position after one that is not at the last numerator of its place
+-- the position after one: the next numerator, or the next place
 pub position_next : (m k j : ℕ) → j + 1 < m → record { k = k; j = j + 1 } ≡ zoom_position m (k * m + j + 1)
 position_next m k j h = sym (ap (zoom_position m) (add_assoc (k * m) j 1) ∙ position_at m k (j + 1) h)
+
+pub position_carried : (m k j : ℕ) → j < m → j + 1 ≡ m → record { k = k + 1; j = 0 } ≡ zoom_position m (k * m + j + 1)
+position_carried m k j h e =
+    let place : k * m + j + 1 ≡ (k + 1) * m + 0 = omega (arith, add-mul k 1 m) in
+    sym (ap (zoom_position m) place ∙ position_at m (k + 1) 0 (omega arith))

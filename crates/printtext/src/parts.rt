@@ -23,7 +23,8 @@ pub const PARTS: usize = 22;
 
 // Whether a part is one of those that make up every output.
 pub fn more_parts(part: usize) -> bool
-    ensures { result ≡ ltb part most_parts }
+    ensures more { result ≡ ltb part most_parts }
+    ensures count { PARTS ≡ most_parts }
 {
     part < PARTS
 }

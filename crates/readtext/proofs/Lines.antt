@@ -9,7 +9,7 @@ use native.Mathlib.Omega.{arith}
 use borrow.Author.Tests.{le-leb, lt-leb}
 use lib.Dec.{eqb}
 use lib.IntN.{ℤ, pos, neg_ℤ, ◌-ℤ◌, +ℤ_idl}
-use lib.ListN.{take, drop}
+use lib.ListN.{length, take, drop}
 use lib.Pointwise.{pointwise}
 use lib.Signed.{mag}
 use mir.Facts.{to_z-of_z}
@@ -21,6 +21,11 @@ use Rattle.readtext.specs.Numbers.{value_after, well_formed, in_range, signed_nu
 use Rattle.readtext.specs.Readings.{size_of, number_read}
 
 -- ---- before the digits
+pub empty : (l : List ℕ) → length l ≡ 0 → found.none ≡ line_number l
+unfolding line_number
+empty [] e = refl
+empty (b ∷ bs) e = absurd (omega arith)
+
 pub with_minus : (l : List ℕ) {digits : List ℕ} → pointwise eqb (take 1 l) (45 ∷ []) ≡ true → digits ≡ drop 1 l → signed_number true digits ≡ line_number l
 unfolding line_number
 with_minus [] e d = cc

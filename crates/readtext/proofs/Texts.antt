@@ -52,6 +52,10 @@ abbrev pub prepended : List ℤ → Option (List ℤ) → Option (List ℤ)
 prepended zs none = none
 prepended zs (some rest) = some (zs ++ rest)
 
+nothing_before : (o : Option (List ℤ)) → o ≡ prepended [] o
+nothing_before none = refl
+nothing_before (some rest) = refl
+
 one_more : (zs : List ℤ) (z : ℤ) (o : Option (List ℤ)) → prepended zs (and_then (some z) o) ≡ prepended (zs ++ (z ∷ [])) o
 one_more zs z none = refl
 one_more zs z (some rest) = ap some (sym (append_assoc zs (z ∷ []) rest))
@@ -63,6 +67,15 @@ pub record Progress (text : List ℕ) (buffer : List ℤ) (rest : List ℕ) (cou
   pub counted : length read ≡ count
   pub begin : take (length buffer) read ≡ take count buffer
   pub all : numbers text ≡ prepended read (numbers rest)
+
+pub progress_none : (text : List ℕ) (buffer : List ℤ) → Progress text buffer text 0
+progress_none text buffer = record {
+  read = [];
+  few = omega arith;
+  counted = refl;
+  begin = take-nil (length buffer);
+  all = nothing_before (numbers text);
+}
 
 -- at the text's end
 pub progress_all : {text : List ℕ} {buffer : List ℤ} (rest : List ℕ) {count : ℕ} → Progress text buffer rest count → length rest ≡ 0

@@ -3,7 +3,7 @@ use mathlib.Core.Bool.{true, false}
 use mathlib.Core.List.{List}
 use mathlib.Core.Option.{none, some}
 use mathlib.Core.Path.{◌≡◌, refl, sym, ap, ap₂, ◌∙◌}
-use Prim.Native.Nat.{ℕ, ◌+◌, ◌≤◌, ◌<◌}
+use Prim.Native.Nat.{ℕ, ◌+◌, ◌%◌, ◌≤◌, ◌<◌}
 use native.Mathlib.Omega.{arith}
 use borrow.Author.Tests.{leb-true}
 use lib.ListN.{length, drop, length-drop, drop_of_length-le}
@@ -11,15 +11,17 @@ use lib.Seq.{drop-drop}
 use Rattle.std.specs.Prelude.{Option, Some, None}
 use Rattle.std.specs.Option.{option_or}
 use Rattle.std.specs.Borrow.{Bor}
-use Rattle.wavefile.specs.Bytes.{data_name, format_name}
+use Rattle.wavefile.specs.Bytes.{part, data_name, format_name}
 use Rattle.wavefile.specs.Chunks.{named, size, body, padded, whole, kept, walk, found}
 use Rattle.wavefile.proofs.Walks.{walk_cut, walk_data, walk_on}
 use Rattle.riff.specs.declared.chunks.Chunk.{Chunk}
 use Rattle.riff.specs.Places.{BeginsWith, format_read, WholeChunk, WholeFormat, WalkedTo}
+use Rattle.riff.proofs.Places.{body_at}
 
 -- all chunks are those that the rest has, with the format kept so far
 pub record Walking (l rest : List ℕ) (format : Option (Bor (List ℕ))) : Type 0 where
   pub at : ℕ
+  pub begun : 12 ≤ at
   pub inside : at ≤ length l
   pub left : rest ≡ drop at l
   pub to_come : found l ≡ walk (format_read format) 0 rest
@@ -27,12 +29,16 @@ pub record Walking (l rest : List ℕ) (format : Option (Bor (List ℕ))) : Type
 
 pub walking_start : (l rest : List ℕ) → 12 ≤ length l → rest ≡ drop 12 l → Walking l rest None
 unfolding found
-walking_start l rest h e = record { at = 12; inside = h; left = e; to_come = ap (walk none 0) (sym e); kept_format = tt }
+walking_start l rest h e = record { at = 12; begun = omega arith; inside = h; left = e; to_come = ap (walk none 0) (sym e); kept_format = tt }
 
 module _ {l rest : List ℕ} {format : Option (Bor (List ℕ))} (w : Walking l rest format) where
   -- where no whole chunk begins there is no "data"
   pub walking_cut : whole rest ≡ false → found l ≡ none
   walking_cut e = w.to_come ∙ walk_cut (format_read format) rest e
+
+  -- nor is there one at the end
+  pub walking_end : length l ≤ w.at → found l ≡ none
+  walking_end h = walking_cut (ap whole w.left ∙ rw (drop_of_length-le l h))
 
   -- at a whole chunk
   module _ {c : Chunk} (s : BeginsWith rest c) where
@@ -54,11 +60,29 @@ module _ {l rest : List ℕ} {format : Option (Bor (List ℕ))} (w : Walking l r
           inside = walking_whole;
         }
 
+    -- where the next one begins
+    next_at : w.at + (8 + padded (size rest)) ≡ w.at + (8 + length c.body.now + length c.body.now % 2)
+    next_at = ap (λ n. w.at + (8 + padded n)) s.sized ∙ omega arith
+
+    pub walking_next : w.at + (8 + length c.body.now + length c.body.now % 2) ≤ length l
+    walking_next =
+        omega (arith, next_at, w.inside, length-drop w.at l, leb-true (8 + padded (size rest)) (length rest) s.whole_chunk, ap length w.left)
+
+    -- the data is a part of the file at a place
+    content_at : c.body.now ≡ part (w.at + 8) (length c.body.now) l
+    content_at = s.whole_body ∙ ap body w.left ∙ body_at w.at l ∙ ap (λ n. part (w.at + 8) n l) (ap size (sym w.left) ∙ s.sized)
+
+    pub walking_data : named data_name rest ≡ true
+        → (found l ≡ some (record { format = format_read format; content = part (w.at + 8) (length c.body.now) l })) × (w.at + 8 + length c.body.now ≤ length l)
+    walking_data d =
+        ((walked_data d).chunks ∙ ap (λ b. some (record { format = format_read format; content = b })) content_at, omega (arith, walking_next))
+
     pub walking_on : {next : Option (Bor (List ℕ))} → named data_name rest ≡ false → format_read next ≡ kept (format_read format) rest → WholeFormat l next
         → Walking l c.rest.now next
     walking_on d k f =
         record {
           at = w.at + (8 + padded (size rest));
+          begun = omega (arith, w.begun);
           inside = omega (arith, w.inside, length-drop w.at l, leb-true (8 + padded (size rest)) (length rest) s.whole_chunk, ap length w.left);
           left = s.followed ∙ ap (drop (8 + padded (size rest))) w.left ∙ drop-drop (8 + padded (size rest)) w.at l;
           to_come =

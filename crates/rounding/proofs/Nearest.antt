@@ -1,11 +1,11 @@
 -- The rounding to the nearest by a floor: with `half` added, the quotient rounded down is the one rounded to the nearest. Assumes nothing.
 use mathlib.Core.Path.{◌≡◌, refl, sym, ◌∙◌}
-use Prim.Native.Nat.{suc, ◌+◌, ◌<◌}
+use Prim.Native.Nat.{ℕ, suc, ◌+◌, ◌<◌}
 use native.Mathlib.Omega.{arith}
 use lib.IntN.{ℤ, pos, negsuc, neg_ℤ, nat_abs, ◌+ℤ◌}
 use lib.Signed.{◌<ℤ◌}
 use mir.Facts.{to_z-of_z}
-use mir.Syntax.{w64}
+use mir.Syntax.{Width, w64}
 use mir.Val.{SFits, to_z, of_z}
 use Rattle.integers.specs.Division.{floor}
 use Rattle.integers.specs.Rounding.{nearest, round}
@@ -16,10 +16,14 @@ use Rattle.integers.proofs.Parts.{of_lt}
 use Rattle.integers.proofs.Rounding.{nearest_between}
 use Rattle.rounding.specs.Half.{half}
 
--- the machine reads what `half` has answered, r, as the half for the numbers which it was given
+-- the machine reads what a function f of the code has answered, r, as that of the numbers which it was given
+pub answer_read : (f : ℤ → ℕ → ℤ) {w : Width} {a d r : ℤ} → SFits w64 a → SFits w64 d → SFits w r
+    → r ≡ f (to_z w64 (of_z w64 a)) (nat_abs (to_z w64 (of_z w64 d))) → to_z w (of_z w r) ≡ f a (nat_abs d)
+answer_read f g h k e = to_z-of_z k ∙ (simp to_z-of_z at e)
+
 pub half_read : {a d r : ℤ} → SFits w64 a → SFits w64 d → SFits w64 r → r ≡ pos (half (to_z w64 (of_z w64 a)) (nat_abs (to_z w64 (of_z w64 d)))) →
     to_z w64 (of_z w64 r) ≡ pos (half a (nat_abs d))
-half_read f g k e = to_z-of_z k ∙ (simp to_z-of_z at e)
+half_read = answer_read (λ a d. pos (half a d))
 
 -- a with its half added
 abbrev pub before_floor : ℤ → ℤ → ℤ

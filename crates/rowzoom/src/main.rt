@@ -2,7 +2,8 @@
 // are and which parts there are is the crate rowtext's; this program reads, calls it and writes.
 #![tactic(auto)]
 
-ghost use Rattle.std.specs.Prelude.{◌≤◌, length, IfOk};
+ghost use Rattle.std.specs.Prelude.{◌≡◌, ◌≤◌, length, IfOk};
+ghost use Rattle.printtext.specs.Output.{most_parts};
 
 use rowtext::input::{judge_text, text_room, value_room, zoom_text};
 use rowtext::output::{PARTS, print_part};
@@ -10,13 +11,16 @@ use rowtext::{LONGEST_TEXT, Refusal, Sizes};
 use std::io;
 use std::io::{Print, Read};
 
-// Writes every part of what is printed. The last of them are empty where there are fewer lines.
+// Writes every part of what is printed. The last of them are empty where there are fewer lines. The contract says that `PARTS` is the count of parts of
+// which the whole output is made; it can say nothing of the loop and of what was written.
 fn write_output<P: Print>(
     rt: &P,
     zoomed: Result<Sizes, Refusal>,
     values: &[i32],
     block: &mut [u8],
-) -> io::Result<()> {
+) -> io::Result<()>
+    ensures { PARTS ≡ most_parts }
+{
     for part in 0..PARTS {
         let count = print_part(zoomed, values, part, block);
         Print::write_all(rt, &block[..count])?;

@@ -1,2 +1,3 @@
 -- The laws from which the functions of `wav` are proved.
 pub mod Signs
+pub mod Lending

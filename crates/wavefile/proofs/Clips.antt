@@ -1,10 +1,10 @@
 -- What reading a file answers and leaves, by the tests that lead there. Assumes nothing.
-use mathlib.Core.Bool.{true}
+use mathlib.Core.Bool.{true, false}
 use mathlib.Core.List.{List, [], ◌∷◌, ◌++◌}
 use mathlib.Core.Path.{◌≡◌, ◌∙◌}
 use Prim.Native.Nat.{ℕ, ◌/◌, ◌%◌, ◌≤◌, ◌<◌}
 use native.Mathlib.Omega.{arith}
-use borrow.Author.Tests.{lt-ltb, le-ltb, ne_eqb}
+use borrow.Author.Tests.{lt-ltb, le-ltb, eq-eqb, ne_eqb}
 use lib.IntN.{ℤ}
 use lib.ListN.{length, drop}
 use Rattle.bspline.specs.Limits.{longest_row}
@@ -27,6 +27,10 @@ module _ (bytes : List ℕ) (buffer : List ℤ) where
   abbrev refused : ℕ → Read
   refused k = record { answer = refusal k; samples = buffer }
 
+  pub bad_file : legal bytes ≡ false → refused 11 ≡ wav_read bytes buffer
+  unfolding wav_read
+  bad_file e = rw e
+
   module _ {f d : List ℕ} {n : ℕ} (g : Legal bytes f d n) where
     -- the tests that are left
     outcome : wav_read bytes buffer
@@ -36,12 +40,21 @@ module _ (bytes : List ℕ) (buffer : List ℤ) where
     unfolding wav_read
     outcome = rw (g.accepted, g.format, g.content)
 
+    pub other_format : plain f ≡ false → refused 12 ≡ wav_read bytes buffer
+    other_format e = rw (outcome, e)
+
     module _ (p : plain f ≡ true) where
+      pub odd_length : n % 2 ≡ 1 → refused 13 ≡ wav_read bytes buffer
+      odd_length e = rw (outcome, p, g.count, eq-eqb (n % 2) 1 e)
+
       module _ (even : n % 2 ≡ 1 → ⊥) where
         pub short_buffer : length buffer < n / 2 → refused 13 ≡ wav_read bytes buffer
         short_buffer h = rw (outcome, p, g.count, ne_eqb (n % 2) 1 even, lt-ltb (length buffer) (n / 2) h)
 
         module _ (fits : n / 2 ≤ length buffer) where
+          pub no_samples : n / 2 ≡ 0 → refused 1 ≡ wav_read bytes buffer
+          no_samples e = rw (outcome, p, g.count, ne_eqb (n % 2) 1 even, le-ltb (length buffer) (n / 2) fits, eq-eqb (n / 2) 0 e)
+
           module _ (some : n / 2 ≡ 0 → ⊥) where
             pub many_samples : longest_row < n / 2 → refused 2 ≡ wav_read bytes buffer
             many_samples h =

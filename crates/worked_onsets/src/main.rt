@@ -29,13 +29,15 @@ fn find<P: Print>(rt: &P, m: usize, threshold: i32) -> io::Result<()> {
     detected(rt, onset::find(report::first(&values, count), m, threshold))
 }
 
-// Finds the onset of so many zeros: every value reaches the threshold.
+// The onset of so many zeros: every value reaches the threshold. A function of its own: one that also prints clears the array twice.
+fn onset_of_zeros(n: usize, m: usize) -> Result<Detection, Refusal> {
+    onset::find(report::first(&report::zeros::<TOO_MANY>(), n), m, 0)
+}
+
+// Finds the onset of so many zeros and prints it.
 fn find_zeros<P: Print>(rt: &P, n: usize, m: usize) -> io::Result<()> {
     print!(rt; "row of {n} zeros at factor {m}, threshold 0")?;
-    detected(
-        rt,
-        onset::find(report::first(&report::zeros::<TOO_MANY>(), n), m, 0),
-    )
+    detected(rt, onset_of_zeros(n, m))
 }
 
 fn main(rt: HostRuntime) -> io::Result<()> {

@@ -1,7 +1,7 @@
--- An index inside the row is its own place. Elsewhere the remainder that the code computes is the index modulo 2(n - 1), and the lesser of it and the
--- rest of the period is what the definition folds it to; in a row of one number the remainder is 0, which is the only place.
-use Rattle.std.proofs.Common.{◌≡◌, ℕ, ◌+◌, ◌-◌, ◌*◌, ◌%◌, ◌^◌, ◌≤◌, ◌<◌, min, max, pos, ◌-ℤ◌, arith, sym, ◌∙◌, mod-lt}
-use native.Mathlib.Decide.{ℕ_discrete, dec_le}
+-- A row of one number reads place 0, and an index inside the row is its own place. Elsewhere the remainder that the code computes is the index modulo
+-- 2(n - 1), and the lesser of it and the rest of the period is what the definition folds it to.
+use Rattle.std.proofs.Common.{◌≡◌, ℕ, ◌+◌, ◌-◌, ◌*◌, ◌%◌, ◌^◌, ◌≤◌, ◌<◌, min, pos, ◌-ℤ◌, arith, sym, ◌∙◌}
+use native.Mathlib.Decide.{dec_le}
 use Rattle.bspline.specs.Mirror.{mirror}
 use Rattle.bspline.proofs.Mirror.{period, mirror_one, mirror_low, mirror_high, mirror_is, mirror_below}
 use Rattle.integers.specs.Division.{modulo}
@@ -13,21 +13,17 @@ use Rattle.mirror.proofs.mirrored.Goals as goal
 abbrev lesser : (i M P : ℕ) → ℕ
 lesser i M P = min ((i + M * (P - 1)) % P) (P - (i + M * (P - 1)) % P)
 
-lesser_is : (n i M P : ℕ) → 0 < n → P ≡ max (period n) 1 → lesser i M P ≡ mirror n (pos i -ℤ pos M)
-lesser_is n i M P h e = go (ℕ_discrete n 1)
+lesser_is : (n i M : ℕ) → 0 < n → (n ≡ 1 → ⊥) → lesser i M (period n) ≡ mirror n (pos i -ℤ pos M)
+lesser_is n i M h d = folded (dec_le (modulo (pos i -ℤ pos M) (period n)) (n - 1))
   where
-    single : n ≡ 1 → lesser i M P ≡ 0
-    single d = let some : 0 < P = omega arith in omega (arith, mod-lt (i + M * (P - 1)) some)
-
-    folded : (n ≡ 1 → ⊥) → Dec (modulo (pos i -ℤ pos M) (period n) ≤ n - 1) → lesser i M (period n) ≡ mirror n (pos i -ℤ pos M)
-    folded d (yes l) = rw (← modulo_shift i M (period n) (omega arith)) (omega (arith, mirror_low n (pos i -ℤ pos M) d l))
-    folded d (no l) =
+    folded : Dec (modulo (pos i -ℤ pos M) (period n) ≤ n - 1) → lesser i M (period n) ≡ mirror n (pos i -ℤ pos M)
+    folded (yes l) = rw (← modulo_shift i M (period n) (omega arith)) (omega (arith, mirror_low n (pos i -ℤ pos M) d l))
+    folded (no l) =
         rw (← modulo_shift i M (period n) (omega arith))
         (omega (arith, modulo_below (pos i -ℤ pos M) (period n) (omega arith), mirror_high n (pos i -ℤ pos M) d (omega arith)))
 
-    go : Dec (n ≡ 1) → lesser i M P ≡ mirror n (pos i -ℤ pos M)
-    go (yes d) = single d ∙ sym (mirror_one n (pos i -ℤ pos M) d)
-    go (no d) = let whole : P ≡ period n = omega arith in rw whole (folded d (dec_le (modulo (pos i -ℤ pos M) (period n)) (n - 1)))
+pub returns-then-n-eq1 : goal.returns-then-n-eq1
+returns-then-n-eq1 c = (sym (mirror_one c.args.n (pos c.args.i -ℤ pos c.args.before) c.if-n-eq1.true), omega arith)
 
 pub returns-then-place-n : goal.returns-then-place-n
 returns-then-place-n c =
@@ -40,5 +36,5 @@ returns-then-place-n c =
 pub returns : goal.returns
 returns c =
     let a = c.args in
-    let e = c.min.ensures ∙ lesser_is a.n a.i a.before c.max-period.result (omega arith) c.max-period.ensures in
+    let e = c.min.ensures ∙ lesser_is a.n a.i a.before (omega arith) c.if-n-eq1.false in
     (e, rw e (mirror_below a.n (pos a.i -ℤ pos a.before) (omega arith)))
