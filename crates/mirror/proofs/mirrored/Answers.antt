@@ -13,8 +13,8 @@ use Rattle.mirror.proofs.mirrored.Goals as goal
 abbrev lesser : (i M P : ℕ) → ℕ
 lesser i M P = min ((i + M * (P - 1)) % P) (P - (i + M * (P - 1)) % P)
 
-lesser_is : (n i M : ℕ) → 0 < n → (n ≡ 1 → ⊥) → lesser i M (period n) ≡ mirror n (pos i -ℤ pos M)
-lesser_is n i M h d = folded (dec_le (modulo (pos i -ℤ pos M) (period n)) (n - 1))
+lesser_is : (n i M : ℕ) → {P : ℕ} → 0 < n → (n ≡ 1 → ⊥) → P ≡ period n → lesser i M P ≡ mirror n (pos i -ℤ pos M)
+lesser_is n i M h d e = rw e (folded (dec_le (modulo (pos i -ℤ pos M) (period n)) (n - 1)))
   where
     folded : Dec (modulo (pos i -ℤ pos M) (period n) ≤ n - 1) → lesser i M (period n) ≡ mirror n (pos i -ℤ pos M)
     folded (yes l) = rw (← modulo_shift i M (period n) (omega arith)) (omega (arith, mirror_low n (pos i -ℤ pos M) d l))
@@ -36,5 +36,5 @@ returns-then-place-n c =
 pub returns : goal.returns
 returns c =
     let a = c.args in
-    let e = c.min.ensures ∙ lesser_is a.n a.i a.before (omega arith) c.if-n-eq1.false in
+    let e = c.min.ensures ∙ lesser_is a.n a.i a.before (omega arith) c.if-n-eq1.false (omega arith) in
     (e, rw e (mirror_below a.n (pos a.i -ℤ pos a.before) (omega arith)))
